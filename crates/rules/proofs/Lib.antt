@@ -1,0 +1,4 @@
+pub mod Equal
+pub mod Growth
+pub mod Passing
+pub mod Words
