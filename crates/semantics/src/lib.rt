@@ -1,0 +1,1 @@
+// What rules mean: the definitions and laws that the contracts of the other crates cite.
