@@ -1,0 +1,5 @@
+pub mod Bits
+pub mod Loops
+pub mod Places
+pub mod Shifts
+pub mod Sweeps

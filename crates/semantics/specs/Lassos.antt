@@ -1,7 +1,7 @@
 -- A lasso: scans 0 to n − 1, which are followed by those from the loop start on, without end.
 use mathlib.Core.Bool.{cond}
 use mathlib.Core.List.{List}
-use Prim.Native.Nat.{ℕ, _+_, _-_, _%_, _^_, _≤_, _<_}
+use Prim.Native.Nat.{ℕ, suc, _+_, _-_, _%_, _^_, _≤_, _<_}
 use lib.Dec.{ltb}
 use lib.ListN.{length, getD}
 
@@ -26,3 +26,7 @@ scanAt l i = wrapped (length (l .words)) (l .start) i
 -- the endless sequence of words
 abbrev pub unrolled : Lasso → ℕ → ℕ
 unrolled l i = getD (l .words) (scanAt l i) 0
+
+-- the scan after scan x
+abbrev pub following : ℕ → ℕ → ℕ → ℕ
+following n s x = cond (ltb (suc x) n) (suc x) s

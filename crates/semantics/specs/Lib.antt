@@ -1,3 +1,4 @@
 pub mod Lassos
 pub mod Meaning
 pub mod Rules
+pub mod Solutions

@@ -1,0 +1,3 @@
+pub mod Back
+pub mod Fill
+pub mod Noted

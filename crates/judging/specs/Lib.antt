@@ -1,0 +1,4 @@
+pub mod Columns
+pub mod Refusals
+pub mod Truths
+pub mod Turns

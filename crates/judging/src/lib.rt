@@ -1,0 +1,5 @@
+// Judging a rule on a recording.
+pub mod column;
+pub mod fault;
+pub mod truths;
+pub mod turn;
