@@ -1,0 +1,5 @@
+pub mod EdgeWords
+pub mod Faults
+pub mod PackedWords
+pub mod Scans
+pub mod Soundness

@@ -1,4 +1,5 @@
 pub mod Equal
 pub mod Growth
+pub mod Laws
 pub mod Passing
 pub mod Words
