@@ -45,7 +45,7 @@ rule-opens B o k n h =
       (λ a z. sym (ap (λ X. ruleWithin k X a) (append-nil B)) ∙ within B [] o k (suc a) a z (omega arith) (omega (arith, h .0))))
 
 -- ---- the same rule, by places and as a tree
-same-tree : (B B′ : List Node) → Ordered B → Ordered B′ → {k k′ : ℕ} → SameRule B B′ k k′ → ruleAt B k ≡ ruleAt B′ k′
+pub same-tree : (B B′ : List Node) → Ordered B → Ordered B′ → {k k′ : ℕ} → SameRule B B′ k k′ → ruleAt B k ≡ ruleAt B′ k′
 same-tree B B′ o o′ {k} {k′} (trues h h′) = rule-opens B o k True h ∙ sym (rule-opens B′ o′ k′ True h′)
 same-tree B B′ o o′ {k} {k′} (falses h h′) = rule-opens B o k False h ∙ sym (rule-opens B′ o′ k′ False h′)
 same-tree B B′ o o′ {k} {k′} (signals {s = s} h h′) = rule-opens B o k (Signal s) h ∙ sym (rule-opens B′ o′ k′ (Signal s) h′)

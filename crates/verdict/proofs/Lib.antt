@@ -1,0 +1,5 @@
+pub mod Judgments
+pub mod Logged
+pub mod Outcomes
+pub mod Readings
+pub mod Whole

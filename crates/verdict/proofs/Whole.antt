@@ -1,0 +1,17 @@
+-- The whole law.
+use Rattle.rules.proofs.Kept.{enters-grows}
+use Rattle.semantics.proofs.Places.{same-rule}
+use Rattle.verdict.specs.Law.{OneVerdict}
+use Rattle.verdict.proofs.Logged.{log-sound, answered-right, answered-alike}
+use Rattle.verdict.proofs.Readings.{reading-enters, reading-once}
+
+pub one-verdict : OneVerdict
+one-verdict = record {
+  book-sound = log-sound;
+  nodes-stay = λ log call. enters-grows call (log-sound log);
+  reading-enters = reading-enters;
+  reading-once = reading-once;
+  same-rule = λ {book} {book′} log log′ k k′ h h′. same-rule book book′ (log-sound log .ordered) (log-sound log′ .ordered) k k′ h h′;
+  judged-right = λ log place l verdict a. let o = answered-right log {place = place} {l = l} {b = verdict} a in (o .inside, o .right);
+  judged-alike = λ log log′ place place′ l l′ verdict verdict′ r m a a′. answered-alike log log′ {place = place} {place′ = place′} {l = l} {l′ = l′} {b = verdict} {b′ = verdict′} r m a a′;
+}
