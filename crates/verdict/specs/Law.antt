@@ -6,6 +6,7 @@ use mathlib.Core.Logic.{_↔_}
 use Prim.Native.Nat.{ℕ, _<_}
 use lib.ListN.{length}
 use Rattle.std.specs.declared.result.Result.{Result}
+use Rattle.std.specs.declared.result.Result.the-variants.{Ok}
 use Rattle.rules.specs.Entering.{Enters}
 use Rattle.rules.specs.Reading.{Reading, Reads}
 use Rattle.rules.specs.Tables.{SoundBook, Grows}
@@ -15,6 +16,7 @@ use Rattle.rules.specs.declared.node.Place.{Place}
 use Rattle.semantics.specs.Lassos.{Lasso, unrolled}
 use Rattle.semantics.specs.Meaning.{Holds}
 use Rattle.semantics.specs.Rules.{ruleAt, SameRule}
+use Rattle.judging.specs.Judging.{Judges}
 use Rattle.verdict.specs.Logs.{BookLog, Answered}
 
 -- recordings of whatever kind are the same when their counts, loop starts and words are
@@ -40,6 +42,9 @@ pub record OneVerdict : Type 0 where
   -- two places hold the same rule exactly when the rules at them are one tree
   pub same-rule : {book book′ : List Node} → BookLog book → BookLog book′ → (k k′ : ℕ) → k < length book → k′ < length book′
       → SameRule book book′ k k′ ↔ (ruleAt book k ≡ ruleAt book′ k′)
+  -- a judge call that is not refused enters the log with its answer
+  pub judging-enters : {book : List Node} {place : Place} {l : Lasso} {before after : List ℕ} {verdict : Bool}
+      → BookLog book → Judges book place l before (Ok verdict) after → (log : BookLog book) × Answered log place l verdict
   -- a judge call that was not refused said yes exactly when the rule at its place holds of the recording
   pub judged-right : {book : List Node} (log : BookLog book) (place : Place) (l : Lasso) (verdict : Bool)
       → Answered log place l verdict → (place .index < length book) × ((verdict ≡ true) ↔ Holds (ruleAt book (place .index)) (unrolled l) 0)
