@@ -300,7 +300,7 @@ pub(crate) fn command_at(byte: u8) -> Option<Command>
 }
 
 // How long the command is that begins with the byte.
-pub fn command_length(byte: u8) -> usize
+pub(crate) fn command_length(byte: u8) -> usize
     ensures { λ r. ⌜ r ≡ lengthOf byte ⌝ }
 {
     LENGTHS[byte as usize] as usize
