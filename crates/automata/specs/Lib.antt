@@ -1,0 +1,4 @@
+pub mod Cores
+pub mod Sets
+pub mod Sheets
+pub mod Steps
