@@ -166,7 +166,7 @@ stays-here c xs k h = subst (λ y. write c y ≡ written y k) (append-nil xs) (h
 two-again : (node : ℕ → ℕ → CoreNode) (a b : Core) (xs : List CoreNode)
     → Stays a (write a xs .sheet) (write a xs .root) → Stays b (write b (write a xs .sheet) .sheet) (write b (write a xs .sheet) .root)
     → (ys : List CoreNode) → let W = put2 node (write a xs .root) (write b (write a xs .sheet)) in
-      let A = write a (W .sheet ++ ys) in put2 node (A .root) (write b (A .sheet)) ≡ written (W .sheet ++ ys) (W .root)
+    let A = write a (W .sheet ++ ys) in put2 node (A .root) (write b (A .sheet)) ≡ written (W .sheet ++ ys) (W .root)
 two-again node a b xs p q ys =
     let A = write a xs in
     let B = write b (A .sheet) in

@@ -146,9 +146,9 @@ module _ (s p : ℕ) (pos : 0 < p) where
     soon : (i f j : ℕ) → j ≤ f → i ≤ j → Reached i j → (j : ℕ) × (i ≤ j) × (j < i + s + p) × Reached i j
     soon i zero j l h r = (j, h, omega arith, r)
     soon i (suc f) j l h r = elim (decLt j (i + s + p)) [
-        | yes q ↦ (j, h, q, r)
-        | no q ↦ soon i f (j - p) (omega arith) (omega arith) (earlier e j (omega arith) (r .0), λ k x y. r .1 k x (omega arith))
-      ]
+      | yes q ↦ (j, h, q, r)
+      | no q ↦ soon i f (j - p) (omega arith) (omega arith) (earlier e j (omega arith) (r .0), λ k x y. r .1 k x (omega arith))
+    ]
 
     dec-until : (i : ℕ) → Dec (UntilAt A B i)
     dec-until i = go (below (Reached i) (λ j. dec-and (e .dec j) (all-from A (g .dec) i j)) i (i + s + p))
@@ -205,13 +205,13 @@ module _ (s p : ℕ) (pos : 0 < p) where
     to = λ i. elim [ inl x ↦ inl (h .to i (x .0), k .to i (x .1)) | inr x ↦ inr (h .nto i (x .0), k .nto i (x .1)) ];
     from = λ i. elim [ inl x ↦ inl (h .from i (x .0), k .from i (x .1)) | inr x ↦ inr (h .nfrom i (x .0), k .nfrom i (x .1)) ];
     nto = λ i f. elim (h .good .dec i) [
-        | yes a ↦ inl (h .to i a, k .nto i (λ b. f (inl (a, b))))
-        | no a ↦ inr (h .nto i a, k .to i (stable (k .good .dec i) (λ b. f (inr (a, b)))))
-      ];
+      | yes a ↦ inl (h .to i a, k .nto i (λ b. f (inl (a, b))))
+      | no a ↦ inr (h .nto i a, k .to i (stable (k .good .dec i) (λ b. f (inr (a, b)))))
+    ];
     nfrom = λ i. elim [
-        | inl x ↦ elim [ inl y ↦ k .nfrom i (x .1) (y .1) | inr y ↦ y .0 (h .from i (x .0)) ]
-        | inr x ↦ elim [ inl y ↦ h .nfrom i (x .0) (y .0) | inr y ↦ y .1 (k .from i (x .1)) ]
-      ];
+      | inl x ↦ elim [ inl y ↦ k .nfrom i (x .1) (y .1) | inr y ↦ y .0 (h .from i (x .0)) ]
+      | inr x ↦ elim [ inl y ↦ h .nfrom i (x .0) (y .0) | inr y ↦ y .1 (k .from i (x .1)) ]
+    ];
   }
 
   -- one without the other
@@ -222,13 +222,13 @@ module _ (s p : ℕ) (pos : 0 < p) where
     to = λ i. elim [ inl x ↦ inl (h .to i (x .0), k .nto i (x .1)) | inr x ↦ inr (h .nto i (x .0), k .to i (x .1)) ];
     from = λ i. elim [ inl x ↦ inl (h .from i (x .0), k .nfrom i (x .1)) | inr x ↦ inr (h .nfrom i (x .0), k .from i (x .1)) ];
     nto = λ i f. elim (h .good .dec i) [
-        | yes a ↦ inl (h .to i a, k .to i (stable (k .good .dec i) (λ b. f (inl (a, b)))))
-        | no a ↦ inr (h .nto i a, k .nto i (λ b. f (inr (a, b))))
-      ];
+      | yes a ↦ inl (h .to i a, k .to i (stable (k .good .dec i) (λ b. f (inl (a, b)))))
+      | no a ↦ inr (h .nto i a, k .nto i (λ b. f (inr (a, b))))
+    ];
     nfrom = λ i. elim [
-        | inl x ↦ elim [ inl y ↦ y .1 (k .from i (x .1)) | inr y ↦ y .0 (h .from i (x .0)) ]
-        | inr x ↦ elim [ inl y ↦ h .nfrom i (x .0) (y .0) | inr y ↦ k .nfrom i (x .1) (y .1) ]
-      ];
+      | inl x ↦ elim [ inl y ↦ y .1 (k .from i (x .1)) | inr y ↦ y .0 (h .from i (x .0)) ]
+      | inr x ↦ elim [ inl y ↦ h .nfrom i (x .0) (y .0) | inr y ↦ k .nfrom i (x .1) (y .1) ]
+    ];
   }
 
   known-until : {H P N K Q M : ℕ → Type 0} → Known H P N → Known K Q M → Known (UntilAt H K) (UntilAt P Q) (ReleasesAt N M)

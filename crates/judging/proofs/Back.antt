@@ -13,7 +13,7 @@ use Rattle.semantics.proofs.Loops.{wrapped-low, wrapped-suc, wrapped-again}
 use Rattle.semantics.proofs.Sweeps.{Reached, reached-end, reached-back, solution-back, first-sweep}
 use Rattle.judging.specs.Columns.{holdOn, passOn}
 use Rattle.judging.specs.Truths.{told}
-use Rattle.judging.specs.Turns.{nodeHold, nodePass, seedOf}
+use Rattle.judging.specs.Turns.{nodeHold, nodePass, lastsOf}
 use Rattle.judging.specs.declared.turn.Turn.{Turn}
 
 -- the turn of the node at a scan
@@ -48,24 +48,24 @@ module _ (node : Node) (l : Lasso) (work : List ℕ) (inside : l .start < length
       let b : t .pass ≡ pass k = q .passes ∙ (λ i. nodePass node (told work (e i))) in
       λ i. a i || (b i && c)
 
-  pub sweep-starts : (c : Bool) (m : ℕ) → c ≡ seedOf node → m ≡ n → Decides c (Reached hold pass (seedOf node) n m)
-  sweep-starts c m e f = subst (λ c. Decides c (Reached hold pass (seedOf node) n m)) (sym e) (subst (λ m. Decides (seedOf node) (Reached hold pass (seedOf node) n m)) (sym f) (reached-end hold pass (seedOf node) n))
+  pub sweep-starts : (c : Bool) (m : ℕ) → c ≡ lastsOf node → m ≡ n → Decides c (Reached hold pass (lastsOf node) n m)
+  sweep-starts c m e f = subst (λ c. Decides c (Reached hold pass (lastsOf node) n m)) (sym e) (subst (λ m. Decides (lastsOf node) (Reached hold pass (lastsOf node) n m)) (sym f) (reached-end hold pass (lastsOf node) n))
 
   pub sweep-back : (j : ℕ) (t : Turn) (c v : Bool) → 0 < j → j ≤ n → Turns node l work (j - 1) t → v ≡ (t .hold || (t .pass && c))
-      → Decides c (Reached hold pass (seedOf node) n j) → Decides v (Reached hold pass (seedOf node) n (j - 1))
+      → Decides c (Reached hold pass (lastsOf node) n j) → Decides v (Reached hold pass (lastsOf node) n (j - 1))
   sweep-back j t c v some few q e d =
       let o : j ≡ suc (j - 1) = omega arith in
       let lt : j - 1 < n = omega arith in
-      subst (λ b. Decides b (Reached hold pass (seedOf node) n (j - 1))) (sym (e ∙ turn-is (j - 1) t c lt q))
-      (reached-back hold pass (seedOf node) n (j - 1) c lt (subst (λ j. Decides c (Reached hold pass (seedOf node) n j)) o d))
+      subst (λ b. Decides b (Reached hold pass (lastsOf node) n (j - 1))) (sym (e ∙ turn-is (j - 1) t c lt q))
+      (reached-back hold pass (lastsOf node) n (j - 1) c lt (subst (λ j. Decides c (Reached hold pass (lastsOf node) n j)) o d))
 
   pub column-back : (j : ℕ) (t : Turn) (c v : Bool) → 0 < j → j ≤ n → Turns node l work (j - 1) t → v ≡ (t .hold || (t .pass && c))
-      → Decides c (Solution hold pass (seedOf node) j) → Decides v (Solution hold pass (seedOf node) (j - 1))
+      → Decides c (Solution hold pass (lastsOf node) j) → Decides v (Solution hold pass (lastsOf node) (j - 1))
   column-back j t c v some few q e d =
       let o : j ≡ suc (j - 1) = omega arith in
       let lt : j - 1 < n = omega arith in
-      subst (λ b. Decides b (Solution hold pass (seedOf node) (j - 1))) (sym (e ∙ turn-is (j - 1) t c lt q))
-      (solution-back hold pass (seedOf node) (j - 1) c (subst (λ j. Decides c (Solution hold pass (seedOf node) j)) o d))
+      subst (λ b. Decides b (Solution hold pass (lastsOf node) (j - 1))) (sym (e ∙ turn-is (j - 1) t c lt q))
+      (solution-back hold pass (lastsOf node) (j - 1) c (subst (λ j. Decides c (Solution hold pass (lastsOf node) j)) o d))
 
   scan-again : (k : ℕ) → s ≤ k → scanAt l (k + (n - s)) ≡ scanAt l k
   scan-again k h = wrapped-again n s inside k h
@@ -73,9 +73,9 @@ module _ (node : Node) (l : Lasso) (work : List ℕ) (inside : l .start < length
   next-again : (k : ℕ) → s ≤ k → scanAt l (suc (k + (n - s))) ≡ scanAt l (suc k)
   next-again k h = let e : suc (k + (n - s)) ≡ suc k + (n - s) = omega arith in ap (scanAt l) e ∙ scan-again (suc k) (omega arith)
 
-  pub sweep-ends : (c : Bool) (m : ℕ) → m ≡ s → Decides c (Reached hold pass (seedOf node) n m) → Decides c (Solution hold pass (seedOf node) n)
+  pub sweep-ends : (c : Bool) (m : ℕ) → m ≡ s → Decides c (Reached hold pass (lastsOf node) n m) → Decides c (Solution hold pass (lastsOf node) n)
   sweep-ends c m e d =
       first-sweep hold pass n s inside
       (λ k h. let a = scan-again k h in let b = next-again k h in λ i. nodeHold node (getD (l .words) (a i) 0) (told work (a i)) (told work (b i)))
       (λ k h. let a = scan-again k h in λ i. nodePass node (told work (a i)))
-      (seedOf node) c (subst (λ m. Decides c (Reached hold pass (seedOf node) n m)) e d)
+      (lastsOf node) c (subst (λ m. Decides c (Reached hold pass (lastsOf node) n m)) e d)

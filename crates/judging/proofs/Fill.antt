@@ -18,7 +18,7 @@ use Rattle.semantics.specs.Lassos.{Lasso, following}
 use Rattle.semantics.specs.Solutions.{Solution}
 use Rattle.judging.specs.Columns.{holdOn, passOn, Denied, Column}
 use Rattle.judging.specs.Truths.{told, wordOf}
-use Rattle.judging.specs.Turns.{unaryHold, unaryPass, binaryHold, binaryPass, nodeHold, nodePass, seedOf, deniesOf}
+use Rattle.judging.specs.Turns.{unaryHold, unaryPass, binaryHold, binaryPass, nodeHold, nodePass, lastsOf, deniesOf}
 use Rattle.judging.specs.declared.turn.Turn.{Turn}
 use Rattle.judging.proofs.Back.{Turns, column-back}
 use Rattle.judging.proofs.Noted.{noted, told-noted, told-else}
@@ -70,7 +70,7 @@ denied-left true false e h = absurd (false≢true e)
 
 -- the column of place p is written from scan j on, with the value there
 pub record Filled (node : Node) (l : Lasso) (p : ℕ) (before : List ℕ) (j : ℕ) (value : Bool) (work : List ℕ) : Type 0 where
-  pub value-is : Decides value (Solution (holdOn node l before) (passOn node l before) (seedOf node) j)
+  pub value-is : Decides value (Solution (holdOn node l before) (passOn node l before) (lastsOf node) j)
   pub empty : (k : ℕ) → k < j → told work k p ≡ false
   pub column : (k : ℕ) → j ≤ k → k < length (l .words) → Decides (told work k p) (Column node l before k)
   pub others : (k q : ℕ) → k < length (l .words) → q < 256 → q ≢ p → told work k q ≡ told before k q
@@ -81,10 +81,10 @@ module _ (node : Node) (l : Lasso) (inside : l .start < length (l .words)) (p : 
   abbrev n : ℕ
   n = length (l .words)
 
-  pub fill-starts : (j : ℕ) (value : Bool) → j ≡ n → Decides value (Solution (holdOn node l before) (passOn node l before) (seedOf node) n)
+  pub fill-starts : (j : ℕ) (value : Bool) → j ≡ n → Decides value (Solution (holdOn node l before) (passOn node l before) (lastsOf node) n)
       → ((k : ℕ) → k < n → told before k p ≡ false) → Filled node l p before j value before
   fill-starts j value e d z = record {
-    value-is = subst (λ j. Decides value (Solution (holdOn node l before) (passOn node l before) (seedOf node) j)) (sym e) d;
+    value-is = subst (λ j. Decides value (Solution (holdOn node l before) (passOn node l before) (lastsOf node) j)) (sym e) d;
     empty = λ k h. z k (omega arith);
     column = λ k h h′. absurd (omega arith);
     others = λ k q h h′ ne. refl;
@@ -105,7 +105,7 @@ module _ (node : Node) (l : Lasso) (inside : l .start < length (l .words)) (p : 
       }
 
   module _ (j : ℕ) (c v : Bool) (work : List ℕ) (t : Turn) (w : Filled node l p before j c work) (some : 0 < j) (inn : j ≤ n) (q : Turns node l work (j - 1) t) (e : v ≡ (t .hold || (t .pass && c))) where
-    value-back : Decides v (Solution (holdOn node l before) (passOn node l before) (seedOf node) (j - 1))
+    value-back : Decides v (Solution (holdOn node l before) (passOn node l before) (lastsOf node) (j - 1))
     value-back = column-back node l before inside j t c v some inn (turned j (j - 1) c work t w (omega arith) q) e (w .value-is)
 
     -- nothing is noted
@@ -114,11 +114,11 @@ module _ (node : Node) (l : Lasso) (inside : l .start < length (l .words)) (p : 
       value-is = value-back;
       empty = λ k h. w .empty k (omega arith);
       column = λ k h lt. elim (ℕ-discrete k (j - 1)) [
-          | no ne ↦ w .column k (omega arith) lt
-          | yes z ↦
-              let off : told work k p ≡ false = w .empty k (omega arith) in
-              subst (λ b. Decides b (Column node l before k)) (sym off) (subst (λ k. Decides false (Column node l before k)) (sym z) (denied-left (deniesOf node) v d value-back))
-        ];
+        | no ne ↦ w .column k (omega arith) lt
+        | yes z ↦
+            let off : told work k p ≡ false = w .empty k (omega arith) in
+            subst (λ b. Decides b (Column node l before k)) (sym off) (subst (λ k. Decides false (Column node l before k)) (sym z) (denied-left (deniesOf node) v d value-back))
+      ];
       others = w .others;
       rest = w .rest;
       long = w .long;
@@ -133,13 +133,13 @@ module _ (node : Node) (l : Lasso) (inside : l .start < length (l .words)) (p : 
       value-is = value-back;
       empty = λ k h. told-else work (j - 1) p k p word-inside few few (λ z. absurd (omega arith)) ∙ w .empty k (omega arith);
       column = λ k h lt. elim (ℕ-discrete k (j - 1)) [
-          | no ne ↦
-              let same : told (noted work (j - 1) p) k p ≡ told work k p = told-else work (j - 1) p k p word-inside few few (λ z. absurd (ne (sym z))) in
-              subst (λ b. Decides b (Column node l before k)) (sym same) (w .column k (omega arith) lt)
-          | yes z ↦
-              let on : told (noted work (j - 1) p) k p ≡ true = ap (λ k. told (noted work (j - 1) p) k p) z ∙ told-noted work (j - 1) p word-inside in
-              subst (λ b. Decides b (Column node l before k)) (sym on) (subst (λ k. Decides true (Column node l before k)) (sym z) (denied-noted (deniesOf node) v d value-back))
-        ];
+        | no ne ↦
+            let same : told (noted work (j - 1) p) k p ≡ told work k p = told-else work (j - 1) p k p word-inside few few (λ z. absurd (ne (sym z))) in
+            subst (λ b. Decides b (Column node l before k)) (sym same) (w .column k (omega arith) lt)
+        | yes z ↦
+            let on : told (noted work (j - 1) p) k p ≡ true = ap (λ k. told (noted work (j - 1) p) k p) z ∙ told-noted work (j - 1) p word-inside in
+            subst (λ b. Decides b (Column node l before k)) (sym on) (subst (λ k. Decides true (Column node l before k)) (sym z) (denied-noted (deniesOf node) v d value-back))
+      ];
       others = λ k x lt lo ne. told-else work (j - 1) p k x word-inside few lo (λ _. ne) ∙ w .others k x lt lo ne;
       rest = drop-set-lt (4 * n) work (wordOf (j - 1) p) _ (omega arith) ∙ w .rest;
       long = length-set work (wordOf (j - 1) p) _ ∙ w .long;

@@ -24,15 +24,15 @@ told-noted work i p h =
 
 pub told-else : (work : List ℕ) (i p j q : ℕ) → wordOf i p < length work → p < 256 → q < 256 → (i ≡ j → q ≢ p) → told (noted work i p) j q ≡ told work j q
 told-else work i p j q h few few′ other = ap (λ b. eqb b 1) (elim (ℕ-discrete (wordOf j q) (wordOf i p)) [
-    | no ne ↦ ap (λ w. bit w (bitOf q)) (getD-set-other work (wordOf i p) (wordOf j q) _ 0 ne)
-    | yes e ↦
-        let same : i ≡ j = omega arith in
-        let ne : q ≢ p = other same in
-        let apart : bitOf p ≢ bitOf q = omega arith in
-        ap (λ w. bit w (bitOf q)) (ap (λ x. getD (noted work i p) x 0) e ∙ getD-set-same work (wordOf i p) _ 0 h)
-        ∙ insert-other (getD work (wordOf i p) 0) (bitOf p) (bitOf q) apart
-        ∙ ap (λ x. bit (getD work x 0) (bitOf q)) (sym e)
-  ])
+  | no ne ↦ ap (λ w. bit w (bitOf q)) (getD-set-other work (wordOf i p) (wordOf j q) _ 0 ne)
+  | yes e ↦
+      let same : i ≡ j = omega arith in
+      let ne : q ≢ p = other same in
+      let apart : bitOf p ≢ bitOf q = omega arith in
+      ap (λ w. bit w (bitOf q)) (ap (λ x. getD (noted work i p) x 0) e ∙ getD-set-same work (wordOf i p) _ 0 h)
+      ∙ insert-other (getD work (wordOf i p) 0) (bitOf p) (bitOf q) apart
+      ∙ ap (λ x. bit (getD work x 0) (bitOf q)) (sym e)
+])
 
 -- a list of zeros tells nothing
 pub told-none : (work : List ℕ) (words i q : ℕ) → ((k : ℕ) → k < words → getD work k 0 ≡ 0) → 4 * i + 4 ≤ words → q < 256 → told work i q ≡ false

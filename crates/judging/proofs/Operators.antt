@@ -15,7 +15,7 @@ use Rattle.semantics.specs.Solutions.{On, Solution}
 use Rattle.semantics.proofs.Shifts.{until-shift, weak-shift}
 use Rattle.semantics.proofs.Sweeps.{until-now, until-opens}
 use Rattle.judging.specs.Columns.{Denied}
-use Rattle.judging.specs.Turns.{unaryHold, unaryPass, unaryDenies, binaryHold, binaryPass, binarySeed, binaryDenies}
+use Rattle.judging.specs.Turns.{unaryHold, unaryPass, unaryDenies, binaryHold, binaryPass, binaryLasts, binaryDenies}
 
 -- the same at each position
 until-like : (A B A′ B′ : ℕ → Type 0) → ((k : ℕ) → A k ↔ A′ k) → ((k : ℕ) → B k ↔ B′ k) → (i : ℕ) → UntilAt A B i ↔ UntilAt A′ B′ i
@@ -58,7 +58,7 @@ module _ (A : ℕ → Type 0) (a : ℕ → Bool) (d : (k : ℕ) → Decides (a k
   unary-right Always i = denial (until-like (λ _. true ≡ true) (On (λ k. not (a k))) (λ _. Unit {0}) (λ k. ¬ A k) (λ _. so) off i)
 
 module _ (A B : ℕ → Type 0) (a b : ℕ → Bool) (d : (k : ℕ) → Decides (a k) (A k)) (e : (k : ℕ) → Decides (b k) (B k)) where
-  pub binary-right : (op : BinaryOp) (i : ℕ) → Denied (binaryDenies op) (Solution (λ k. binaryHold op (a k) (b k)) (λ k. binaryPass op (a k)) (binarySeed op) i) ↔ BinaryAt op A B i
+  pub binary-right : (op : BinaryOp) (i : ℕ) → Denied (binaryDenies op) (Solution (λ k. binaryHold op (a k) (b k)) (λ k. binaryPass op (a k)) (binaryLasts op) i) ↔ BinaryAt op A B i
   binary-right And i = plain _ i (decides-both (a i) (b i) (d i) (e i))
   binary-right Or i = plain _ i (decides-or (a i) (b i) (d i) (e i))
   binary-right Implies i = plain _ i (decides-or (not (a i)) (b i) (off A a d i) (e i))

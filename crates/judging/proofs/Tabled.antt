@@ -78,16 +78,16 @@ module _ (book : List Node) (ordered : Ordered book) (few : length book ≤ 256)
       → ((i q : ℕ) → i < length (l .words) → q < 256 → (q ≡ p → ⊥) → told work′ i q ≡ told work i q)
       → Tabled book l (p + 1) work′
   table-more p work work′ t lt column others i q h few′ = elim (ℕ-discrete q p) [
-      | yes e ↦
-          let c = column-right p work t lt i in
-          let d : Decides (told work′ i p) ((p < p + 1) × Holds (ruleAt book p) (unrolled l) i) =
-            decides-like (told work′ i p) (λ x. (omega arith, c .0 x)) (λ x. c .1 (x .1)) (column i h) in
-          subst (λ q. Decides (told work′ i q) ((q < p + 1) × Holds (ruleAt book q) (unrolled l) i)) (sym e) d
-      | no ne ↦
-          let d = t i q h few′ in
-          subst (λ b. Decides b ((q < p + 1) × Holds (ruleAt book q) (unrolled l) i)) (sym (others i q h few′ ne))
-          ((λ e. let x = d .0 e in (omega (arith, x .0), x .1)), λ x. d .1 (omega (arith, x .0), x .1))
-    ]
+    | yes e ↦
+        let c = column-right p work t lt i in
+        let d : Decides (told work′ i p) ((p < p + 1) × Holds (ruleAt book p) (unrolled l) i) =
+        decides-like (told work′ i p) (λ x. (omega arith, c .0 x)) (λ x. c .1 (x .1)) (column i h) in
+        subst (λ q. Decides (told work′ i q) ((q < p + 1) × Holds (ruleAt book q) (unrolled l) i)) (sym e) d
+    | no ne ↦
+        let d = t i q h few′ in
+        subst (λ b. Decides b ((q < p + 1) × Holds (ruleAt book q) (unrolled l) i)) (sym (others i q h few′ ne))
+        ((λ e. let x = d .0 e in (omega (arith, x .0), x .1)), λ x. d .1 (omega (arith, x .0), x .1))
+  ]
 
   -- the answer
   pub table-answers : (p : ℕ) (work : List ℕ) → Tabled book l (p + 1) work → p < 256 → Decides (told work 0 p) (Holds (ruleAt book p) (unrolled l) 0)
@@ -100,8 +100,7 @@ module _ (book : List Node) (ordered : Ordered book) (few : length book ≤ 256)
       let d = t i (64 * j + b) h (omega arith) in
       let u : wordOf i (64 * j + b) ≡ 4 * i + j = omega arith in
       let v : bitOf (64 * j + b) ≡ b = omega arith in
-      let w : bit (getD work (wordOf i (64 * j + b)) 0) (bitOf (64 * j + b)) ≡ bit (getD work (4 * i + j) 0) b = (λ k. bit (getD work (u k) 0) (v k)) in
-      (
+      let w : bit (getD work (wordOf i (64 * j + b)) 0) (bitOf (64 * j + b)) ≡ bit (getD work (4 * i + j) 0) b = (λ k. bit (getD work (u k) 0) (v k)) in (
         λ e. let x = d .0 (eq-eqb _ 1 (w ∙ e)) in (omega (arith, x .0), x .1),
         λ x. sym w ∙ eqb-true _ 1 (d .1 (omega (arith, x .0), x .1)),
       )

@@ -6,7 +6,7 @@ use Rattle.rules.specs.declared.node.Node.{Node}
 use Rattle.semantics.specs.Lassos.{Lasso, scanAt, unrolled}
 use Rattle.semantics.specs.Solutions.{Solution}
 use Rattle.judging.specs.Truths.{told}
-use Rattle.judging.specs.Turns.{nodeHold, nodePass, seedOf, deniesOf}
+use Rattle.judging.specs.Turns.{nodeHold, nodePass, lastsOf, deniesOf}
 
 -- the node's turn at each position
 abbrev pub holdOn : Node → Lasso → List ℕ → ℕ → Bool
@@ -21,4 +21,4 @@ Denied true A = ¬ A
 
 -- what the node says at each position
 abbrev pub Column : Node → Lasso → List ℕ → ℕ → Type 0
-Column node l work i = Denied (deniesOf node) (Solution (holdOn node l work) (passOn node l work) (seedOf node) i)
+Column node l work i = Denied (deniesOf node) (Solution (holdOn node l work) (passOn node l work) (lastsOf node) i)

@@ -61,23 +61,23 @@ nodePass (Unary op a) now = unaryPass op
 nodePass (Binary op a b) now = binaryPass op (now (a .index))
 
 -- a node that passes on for ever is true
-abbrev pub binarySeed : BinaryOp → Bool
-binarySeed And = false
-binarySeed Or = false
-binarySeed Implies = false
-binarySeed Equivalent = false
-binarySeed ExclusiveOr = false
-binarySeed Until = false
-binarySeed Release = false
-binarySeed WeakUntil = true
-binarySeed StrongRelease = true
+abbrev pub binaryLasts : BinaryOp → Bool
+binaryLasts And = false
+binaryLasts Or = false
+binaryLasts Implies = false
+binaryLasts Equivalent = false
+binaryLasts ExclusiveOr = false
+binaryLasts Until = false
+binaryLasts Release = false
+binaryLasts WeakUntil = true
+binaryLasts StrongRelease = true
 
-abbrev pub seedOf : Node → Bool
-seedOf True = false
-seedOf False = false
-seedOf (Signal s) = false
-seedOf (Unary op a) = false
-seedOf (Binary op a b) = binarySeed op
+abbrev pub lastsOf : Node → Bool
+lastsOf True = false
+lastsOf False = false
+lastsOf (Signal s) = false
+lastsOf (Unary op a) = false
+lastsOf (Binary op a b) = binaryLasts op
 
 -- the node is the denial of what its turns say
 abbrev pub unaryDenies : UnaryOp → Bool

@@ -9,14 +9,14 @@ ghost use Rattle.semantics.specs.Lassos.{following};
 ghost use Rattle.semantics.specs.Solutions.{Solution};
 ghost use Rattle.judging.specs.Columns.{holdOn, passOn, Column};
 ghost use Rattle.judging.specs.Truths.{told};
-ghost use Rattle.judging.specs.Turns.{nodeHold, nodePass, seedOf};
+ghost use Rattle.judging.specs.Turns.{nodeHold, nodePass, lastsOf};
 use crate::truths::is_on;
 use crate::truths::note;
 use crate::truths::truth;
 use crate::turn::Turn;
 use crate::turn::binary_turn;
 use crate::turn::denies;
-use crate::turn::seed;
+use crate::turn::lasts;
 use crate::turn::unary_turn;
 use models::recording::Recording;
 use rules::node::Node;
@@ -41,9 +41,18 @@ fn turn_at<R: Recording>(node: Node, recording: &R, work: &[u64], scan: usize) -
     ensures pass { λ r. ⌜ r .pass ≡ nodePass node (told (now (work .entry)) scan) ⌝ }
 {
     match node {
-        Node::True => Turn { hold: true, pass: false },
-        Node::False => Turn { hold: false, pass: false },
-        Node::Signal(s) => Turn { hold: is_on(recording.word(scan), s as usize), pass: false },
+        Node::True => Turn {
+            hold: true,
+            pass: false,
+        },
+        Node::False => Turn {
+            hold: false,
+            pass: false,
+        },
+        Node::Signal(s) => Turn {
+            hold: is_on(recording.word(scan), s as usize),
+            pass: false,
+        },
         Node::Unary(op, a) => {
             let next = next_scan(recording, scan);
             unary_turn(op, truth(work, scan, a), truth(work, next, a))
@@ -55,9 +64,9 @@ fn turn_at<R: Recording>(node: Node, recording: &R, work: &[u64], scan: usize) -
 // What the turns of a node say beyond the last scan: one turn of the loop is enough to know.
 fn first_sweep<R: Recording>(node: Node, recording: &R, work: &[u64]) -> bool
     requires { ⌜ fitsAt node 256 ≡ true ⌝ ∗ ⌜ 4 * length (meaning (now recording) .words) ≤ length (now work) ⌝ }
-    ensures { λ r. ⌜ Decides r (Solution (holdOn node (meaning (now (recording .entry))) (now (work .entry))) (passOn node (meaning (now (recording .entry))) (now (work .entry))) (seedOf node) (length (meaning (now (recording .entry)) .words))) ⌝ }
+    ensures { λ r. ⌜ Decides r (Solution (holdOn node (meaning (now (recording .entry))) (now (work .entry))) (passOn node (meaning (now (recording .entry))) (now (work .entry))) (lastsOf node) (length (meaning (now (recording .entry)) .words))) ⌝ }
 {
-    let mut value = seed(node);
+    let mut value = lasts(node);
     for scan in (recording.loop_start()..recording.count()).rev() {
         value = turn_at(node, recording, work, scan).before(value);
     }

@@ -33,7 +33,12 @@ fn fill_table<R: Recording>(book: &Book, place: Place, recording: &R, work: &mut
 }
 
 // Whether the rule at a place holds of a recording, at its first scan.
-pub fn judge<R: Recording>(book: &Book, place: Place, recording: &R, work: &mut [u64]) -> Result<bool, JudgeFault>
+pub fn judge<R: Recording>(
+    book: &Book,
+    place: Place,
+    recording: &R,
+    work: &mut [u64],
+) -> Result<bool, JudgeFault>
     ensures { λ r. ⌜ Judges (entries (now (book .entry))) place (meaning (now (recording .entry))) (now (work .entry)) r (now (work .exit)) ⌝ }
 {
     if place.index as usize >= book.len() {

@@ -1,7 +1,7 @@
 // What a node says of one scan, from what its operands say there.
 ghost use mathlib.Core.Path.{_≡_};
 ghost use mathlib.Core.Bool.{_&&_, _||_};
-ghost use Rattle.judging.specs.Turns.{unaryHold, unaryPass, binaryHold, binaryPass, seedOf, deniesOf};
+ghost use Rattle.judging.specs.Turns.{unaryHold, unaryPass, binaryHold, binaryPass, lastsOf, deniesOf};
 use rules::node::BinaryOp;
 use rules::node::Node;
 use rules::node::UnaryOp;
@@ -27,10 +27,22 @@ pub(crate) fn unary_turn(op: UnaryOp, now: bool, next: bool) -> Turn
     ensures pass { λ r. ⌜ r .pass ≡ unaryPass op ⌝ }
 {
     match op {
-        UnaryOp::Not => Turn { hold: !now, pass: false },
-        UnaryOp::Next => Turn { hold: next, pass: false },
-        UnaryOp::Eventually => Turn { hold: now, pass: true },
-        UnaryOp::Always => Turn { hold: !now, pass: true },
+        UnaryOp::Not => Turn {
+            hold: !now,
+            pass: false,
+        },
+        UnaryOp::Next => Turn {
+            hold: next,
+            pass: false,
+        },
+        UnaryOp::Eventually => Turn {
+            hold: now,
+            pass: true,
+        },
+        UnaryOp::Always => Turn {
+            hold: !now,
+            pass: true,
+        },
     }
 }
 
@@ -39,11 +51,26 @@ pub(crate) fn binary_turn(op: BinaryOp, a: bool, b: bool) -> Turn
     ensures pass { λ r. ⌜ r .pass ≡ binaryPass op a ⌝ }
 {
     match op {
-        BinaryOp::And => Turn { hold: a && b, pass: false },
-        BinaryOp::Or => Turn { hold: a || b, pass: false },
-        BinaryOp::Implies => Turn { hold: !a || b, pass: false },
-        BinaryOp::Equivalent => Turn { hold: a == b, pass: false },
-        BinaryOp::ExclusiveOr => Turn { hold: a != b, pass: false },
+        BinaryOp::And => Turn {
+            hold: a && b,
+            pass: false,
+        },
+        BinaryOp::Or => Turn {
+            hold: a || b,
+            pass: false,
+        },
+        BinaryOp::Implies => Turn {
+            hold: !a || b,
+            pass: false,
+        },
+        BinaryOp::Equivalent => Turn {
+            hold: a == b,
+            pass: false,
+        },
+        BinaryOp::ExclusiveOr => Turn {
+            hold: a != b,
+            pass: false,
+        },
         BinaryOp::Until => Turn { hold: b, pass: a },
         BinaryOp::Release => Turn { hold: !b, pass: !a },
         BinaryOp::WeakUntil => Turn { hold: b, pass: a },
@@ -52,8 +79,8 @@ pub(crate) fn binary_turn(op: BinaryOp, a: bool, b: bool) -> Turn
 }
 
 // What a sweep takes for true beyond the last scan: where a node that passes on for ever is true.
-pub(crate) fn seed(node: Node) -> bool
-    ensures { λ r. ⌜ r ≡ seedOf node ⌝ }
+pub(crate) fn lasts(node: Node) -> bool
+    ensures { λ r. ⌜ r ≡ lastsOf node ⌝ }
 {
     match node {
         Node::Binary(BinaryOp::WeakUntil, _, _) => true,

@@ -1,6 +1,6 @@
 // The command at the front of some bytes.
 ghost use mathlib.Core.Path.{_≡_};
-ghost use Rattle.rules.specs.Decoding.{decoded};
+ghost use Rattle.rules.specs.Decoding.{decoded, place};
 use crate::command::Command;
 use crate::command::command_at;
 use crate::command::command_length;
@@ -11,6 +11,14 @@ use crate::node::Place;
 
 const LAST_SIGNAL: u16 = 63;
 
+// The place that two bytes say.
+fn place_at(high: u8, low: u8) -> Place
+    ensures { λ r. ⌜ r ≡ place high low ⌝ }
+{
+    let index = operand(high, low);
+    Place { index }
+}
+
 // The node that the first command says, and how long the command is.
 pub(crate) fn decode(bytes: &[u8]) -> Result<(Node, usize), EnterFault>
     ensures { λ r. ⌜ r ≡ decoded (now (bytes .entry)) ⌝ }
@@ -18,9 +26,8 @@ pub(crate) fn decode(bytes: &[u8]) -> Result<(Node, usize), EnterFault>
     let [byte, rest @ ..] = bytes else {
         return Err(EnterFault::Truncated);
     };
-    let byte = *byte;
-    let Some(command) = command_at(byte) else {
-        return Err(EnterFault::UnknownCommand(byte));
+    let Some(command) = command_at(*byte) else {
+        return Err(EnterFault::UnknownCommand(*byte));
     };
     let node = match command {
         Command::Plain(node) => node,
@@ -38,26 +45,18 @@ pub(crate) fn decode(bytes: &[u8]) -> Result<(Node, usize), EnterFault>
             let [high, low, ..] = rest else {
                 return Err(EnterFault::Truncated);
             };
-            let a = Place {
-                index: operand(*high, *low),
-            };
-            Node::Unary(op, a)
+            Node::Unary(op, place_at(*high, *low))
         }
         Command::Binary(op) => {
             let [high, low, more @ ..] = rest else {
                 return Err(EnterFault::Truncated);
             };
-            let a = Place {
-                index: operand(*high, *low),
-            };
+            let a = place_at(*high, *low);
             let [high, low, ..] = more else {
                 return Err(EnterFault::Truncated);
             };
-            let b = Place {
-                index: operand(*high, *low),
-            };
-            Node::Binary(op, a, b)
+            Node::Binary(op, a, place_at(*high, *low))
         }
     };
-    Ok((node, command_length(byte)))
+    Ok((node, command_length(*byte)))
 }

@@ -47,7 +47,9 @@ pub impl PartialEq<Node> for Node as NodePartialEq {
             (Node::False, Node::False) => true,
             (Node::Signal(s), Node::Signal(t)) => s == t,
             (Node::Unary(o, a), Node::Unary(p, b)) => o == p && a.index == b.index,
-            (Node::Binary(o, a, b), Node::Binary(p, c, d)) => o == p && a.index == c.index && b.index == d.index,
+            (Node::Binary(o, a, b), Node::Binary(p, c, d)) => o == p
+                && a.index == c.index
+                && b.index == d.index,
             _ => false,
         }
     }

@@ -65,18 +65,18 @@ impl<'a> ReadFault<'a> {
 }
 
 // Enters the command that starts at a byte of the file.
-fn enter_at<'a>(book: &mut Book, file: &'a [u8], start: usize) -> Result<(Place, usize), CommandFault<'a>>
+fn enter_at<'a>(
+    book: &mut Book,
+    file: &'a [u8],
+    start: usize,
+) -> Result<(Place, usize), CommandFault<'a>>
     requires { ⌜ start ≤ length (now file) ⌝ }
     ensures { λ r. ⌜ Cases r (λ p. Enters (entries (now (book .entry))) (drop start (now (file .entry))) (Ok p) (entries (now (book .exit)))) (λ e. Enters (entries (now (book .entry))) (drop start (now (file .entry))) (Err (e .fault)) (entries (now (book .exit))) × (e .start ≡ start) × (now (e .rest) ≡ drop start (now (file .entry)))) ⌝ }
 {
     let rest = &file[start..];
     match book.enter(rest) {
         Ok(entered) => Ok(entered),
-        Err(fault) => Err(CommandFault {
-            fault,
-            start,
-            rest,
-        }),
+        Err(fault) => Err(CommandFault { fault, start, rest }),
     }
 }
 

@@ -24,12 +24,12 @@ one-bit k = rw (div-self (pow-pos k))
 
 other-bit : (j k : ℕ) → j ≢ k → bit (2 ^ j) k ≡ 0
 other-bit j k n = elim (decLt j k) [
-    | yes h ↦ rw (div-eq-of-lt (pow-lt h))
-    | no h ↦
-        let e : j ≡ suc (j - suc k) + k = omega arith in
-        let f : 2 ^ j ≡ 2 ^ suc (j - suc k) * 2 ^ k = ap (λ x. 2 ^ x) e ∙ pow-add 2 (suc (j - suc k)) k in
-        rw (f, shl-shr (2 ^ suc (j - suc k)) k, pow-suc) (mul-mod-left _ 2)
-  ]
+  | yes h ↦ rw (div-eq-of-lt (pow-lt h))
+  | no h ↦
+      let e : j ≡ suc (j - suc k) + k = omega arith in
+      let f : 2 ^ j ≡ 2 ^ suc (j - suc k) * 2 ^ k = ap (λ x. 2 ^ x) e ∙ pow-add 2 (suc (j - suc k)) k in
+      rw (f, shl-shr (2 ^ suc (j - suc k)) k, pow-suc) (mul-mod-left _ 2)
+]
 
 -- a bit that is put in, and the others
 pub insert-same : (m k : ℕ) → bit (bitOr m (2 ^ k)) k ≡ 1

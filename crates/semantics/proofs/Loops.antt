@@ -24,15 +24,15 @@ module _ (n s : ℕ) (inside : s < n) where
   -- from the loop start on it is the remainder
   wrapped-mod : (i : ℕ) → s ≤ i → wrapped n s i ≡ s + (i - s) % (n - s)
   wrapped-mod i l = elim (decLt i n) [
-      | yes q ↦ wrapped-low i q ∙ (let e : (i - s) % (n - s) ≡ i - s = mod-eq-of-lt (omega arith) in omega arith)
-      | no q ↦ wrapped-high i (omega arith)
-    ]
+    | yes q ↦ wrapped-low i q ∙ (let e : (i - s) % (n - s) ≡ i - s = mod-eq-of-lt (omega arith) in omega arith)
+    | no q ↦ wrapped-high i (omega arith)
+  ]
 
   pub wrapped-lt : (i : ℕ) → wrapped n s i < n
   wrapped-lt i = elim (decLt i n) [
-      | yes q ↦ subst (λ x. x < n) (sym (wrapped-low i q)) q
-      | no q ↦ subst (λ x. x < n) (sym (wrapped-high i (omega arith))) (let p : 0 < n - s = omega arith in omega (arith, mod-lt (i - s) p))
-    ]
+    | yes q ↦ subst (λ x. x < n) (sym (wrapped-low i q)) q
+    | no q ↦ subst (λ x. x < n) (sym (wrapped-high i (omega arith))) (let p : 0 < n - s = omega arith in omega (arith, mod-lt (i - s) p))
+  ]
 
   pub wrapped-again : (i : ℕ) → s ≤ i → wrapped n s (i + (n - s)) ≡ wrapped n s i
   wrapped-again i l =
@@ -52,24 +52,24 @@ module _ (n s : ℕ) (inside : s < n) where
 
   pub wrapped-suc : (i : ℕ) → wrapped n s (suc i) ≡ following n s (wrapped n s i)
   wrapped-suc i = elim (decLt (suc i) n) [
-      | yes q ↦
-          let e = wrapped-low i (omega arith) in
-          wrapped-low (suc i) q ∙ sym (cond-true _ _ _ (lt-ltb (suc i) n q)) ∙ ap (following n s) (sym e)
-      | no q ↦
-          let a : suc i - s ≡ suc (i - s) = omega arith in
-          let e = wrapped-mod i (omega arith) in
-          let f : wrapped n s (suc i) ≡ s + suc (i - s) % (n - s) = wrapped-mod (suc i) (omega arith) ∙ ap (λ x. s + x % (n - s)) a in
-          elim (mod-suc (i - s) (n - s) (omega arith)) [
-            | inl r ↦
-                let l : suc (wrapped n s i) < n = omega (arith, r .0) in
-                let g : wrapped n s (suc i) ≡ suc (wrapped n s i) = omega (arith, r .1) in
-                g ∙ sym (cond-true _ _ _ (lt-ltb (suc (wrapped n s i)) n l))
-            | inr r ↦
-                let l : n ≤ suc (wrapped n s i) = omega (arith, r .0) in
-                let g : wrapped n s (suc i) ≡ s = omega (arith, r .1) in
-                g ∙ sym (cond-false _ _ _ (le-ltb (suc (wrapped n s i)) n l))
-          ]
-    ]
+    | yes q ↦
+        let e = wrapped-low i (omega arith) in
+        wrapped-low (suc i) q ∙ sym (cond-true _ _ _ (lt-ltb (suc i) n q)) ∙ ap (following n s) (sym e)
+    | no q ↦
+        let a : suc i - s ≡ suc (i - s) = omega arith in
+        let e = wrapped-mod i (omega arith) in
+        let f : wrapped n s (suc i) ≡ s + suc (i - s) % (n - s) = wrapped-mod (suc i) (omega arith) ∙ ap (λ x. s + x % (n - s)) a in
+        elim (mod-suc (i - s) (n - s) (omega arith)) [
+          | inl r ↦
+              let l : suc (wrapped n s i) < n = omega (arith, r .0) in
+              let g : wrapped n s (suc i) ≡ suc (wrapped n s i) = omega (arith, r .1) in
+              g ∙ sym (cond-true _ _ _ (lt-ltb (suc (wrapped n s i)) n l))
+          | inr r ↦
+              let l : n ≤ suc (wrapped n s i) = omega (arith, r .0) in
+              let g : wrapped n s (suc i) ≡ s = omega (arith, r .1) in
+              g ∙ sym (cond-false _ _ _ (le-ltb (suc (wrapped n s i)) n l))
+        ]
+  ]
 
   -- what follows a position is what follows its scan
   pub wrapped-on : (i k : ℕ) → wrapped n s (i + k) ≡ wrapped n s (wrapped n s i + k)

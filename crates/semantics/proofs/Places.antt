@@ -42,7 +42,7 @@ unfolding ruleWithin
 rule-opens B o k n h =
     subst (λ n. ruleAt B k ≡ built (ruleAt B) n) (h .1)
     (built-same (ruleWithin k B) (ruleAt B) (getD B k True) k (o k (h .0))
-      (λ a z. sym (ap (λ X. ruleWithin k X a) (append-nil B)) ∙ within B [] o k (suc a) a z (omega arith) (omega (arith, h .0))))
+    (λ a z. sym (ap (λ X. ruleWithin k X a) (append-nil B)) ∙ within B [] o k (suc a) a z (omega arith) (omega (arith, h .0))))
 
 -- ---- the same rule, by places and as a tree
 pub same-tree : (B B′ : List Node) → Ordered B → Ordered B′ → {k k′ : ℕ} → SameRule B B′ k k′ → ruleAt B k ≡ ruleAt B′ k′

@@ -31,8 +31,7 @@ shift-not A A′ i j s k = (λ f a. f (s k .1 a), λ f a. f (s k .0 a))
 module _ (A B A′ B′ : ℕ → Type 0) where
   until-go : (i j : ℕ) → Shift A i A′ j → Shift B i B′ j → UntilAt A B i → UntilAt A′ B′ j
   until-go i j s t u =
-      let d : u .0 ≡ i + (u .0 - i) = omega (arith, u .1) in
-      (
+      let d : u .0 ≡ i + (u .0 - i) = omega (arith, u .1) in (
         j + (u .0 - i),
         omega arith,
         t (u .0 - i) .0 (subst B d (u .2)),

@@ -26,9 +26,9 @@ module _ (A B : ℕ → Type 0) where
 
   pub until-opens : (i : ℕ) → UntilAt A B i → B i ⊎ (A i × UntilAt A B (suc i))
   until-opens i u = elim (ℕ-discrete (u .0) i) [
-      | yes e ↦ inl (subst B e (u .2))
-      | no n ↦ inr (u .3 i (omega arith) (omega (arith, u .1)), (u .0, omega (arith, u .1), u .2, λ k h l. u .3 k (omega arith) l))
-    ]
+    | yes e ↦ inl (subst B e (u .2))
+    | no n ↦ inr (u .3 i (omega arith) (omega (arith, u .1)), (u .0, omega (arith, u .1), u .2, λ k h l. u .3 k (omega arith) l))
+  ]
 
 module _ (hold pass : ℕ → Bool) where
   abbrev Passes : ℕ → Type 0
@@ -60,9 +60,9 @@ module _ (hold pass : ℕ → Bool) where
     elim [
       | inl h ↦ inl (until-now Passes Hits i h)
       | inr q ↦ elim (q .1) [
-          | inl u ↦ inl (until-later Passes Hits i (q .0) u)
-          | inr f ↦ inr (each-always i (λ k h. elim (ℕ-discrete i k) [ yes e ↦ subst Passes e (q .0) | no n ↦ always-each (suc i) f k (omega arith) ]))
-        ]
+        | inl u ↦ inl (until-later Passes Hits i (q .0) u)
+        | inr f ↦ inr (each-always i (λ k h. elim (ℕ-discrete i k) [ yes e ↦ subst Passes e (q .0) | no n ↦ always-each (suc i) f k (omega arith) ]))
+      ]
     ],
   )
 
@@ -91,17 +91,17 @@ module _ (hold pass : ℕ → Bool) where
   reached-opens g n i lt = (
     elim [
       | inl w ↦ elim (ℕ-discrete (w .0) i) [
-          | yes e ↦ inl (subst Hits e (w .3))
-          | no z ↦ inr (w .4 i (omega arith) (omega (arith, w .1)), inl (w .0, omega (arith, w .1), w .2, w .3, λ k h l. w .4 k (omega arith) l))
-        ]
+        | yes e ↦ inl (subst Hits e (w .3))
+        | no z ↦ inr (w .4 i (omega arith) (omega (arith, w .1)), inl (w .0, omega (arith, w .1), w .2, w .3, λ k h l. w .4 k (omega arith) l))
+      ]
       | inr q ↦ inr (q .1 i (omega arith) lt, inr (q .0, λ k h l. q .1 k (omega arith) l))
     ],
     elim [
       | inl h ↦ inl (i, omega arith, lt, h, λ k a b. absurd (omega arith))
       | inr q ↦ elim (q .1) [
-          | inl w ↦ inl (w .0, omega (arith, w .1), w .2, w .3, λ k h l. elim (ℕ-discrete i k) [ yes e ↦ subst Passes e (q .0) | no z ↦ w .4 k (omega arith) l ])
-          | inr r ↦ inr (r .0, λ k h l. elim (ℕ-discrete i k) [ yes e ↦ subst Passes e (q .0) | no z ↦ r .1 k (omega arith) l ])
-        ]
+        | inl w ↦ inl (w .0, omega (arith, w .1), w .2, w .3, λ k h l. elim (ℕ-discrete i k) [ yes e ↦ subst Passes e (q .0) | no z ↦ w .4 k (omega arith) l ])
+        | inr r ↦ inr (r .0, λ k h l. elim (ℕ-discrete i k) [ yes e ↦ subst Passes e (q .0) | no z ↦ r .1 k (omega arith) l ])
+      ]
     ],
   )
 
@@ -117,17 +117,17 @@ module _ (hold pass : ℕ → Bool) where
     one-turn : (f j : ℕ) → j < f → s ≤ j → hold j ≡ true → ((k : ℕ) → s ≤ k → k < j → pass k ≡ true) → Hit-before n s
     one-turn zero j lt h t q = absurd (omega arith)
     one-turn (suc f) j lt h t q = elim (decLt j n) [
-        | yes l ↦ (j, h, l, t, q)
-        | no l ↦ one-turn f (j - (n - s)) (omega arith) (omega arith) (earlier hold hold-again j (omega arith) ∙ t) (λ k a b. q k a (omega arith))
-      ]
+      | yes l ↦ (j, h, l, t, q)
+      | no l ↦ one-turn f (j - (n - s)) (omega arith) (omega arith) (earlier hold hold-again j (omega arith) ∙ t) (λ k a b. q k a (omega arith))
+    ]
 
     -- what passes through one turn of the loop passes for ever
     every-turn : ((k : ℕ) → s ≤ k → k < n → pass k ≡ true) → (f k : ℕ) → k < f → s ≤ k → pass k ≡ true
     every-turn q zero k lt h = absurd (omega arith)
     every-turn q (suc f) k lt h = elim (decLt k n) [
-        | yes l ↦ q k h l
-        | no l ↦ sym (earlier pass pass-again k (omega arith)) ∙ every-turn q f (k - (n - s)) (omega arith) (omega arith)
-      ]
+      | yes l ↦ q k h l
+      | no l ↦ sym (earlier pass pass-again k (omega arith)) ∙ every-turn q f (k - (n - s)) (omega arith) (omega arith)
+    ]
 
     until-turn : UntilAt Passes Hits s → Hit-before n s
     until-turn u = one-turn (suc (u .0)) (u .0) (omega arith) (u .1) (u .2) (u .3)

@@ -112,8 +112,17 @@ pub worked : WorkedJudgments
 unfolding two ruleWithin
 worked = (
   right (judgment p0-until-p1 (1 ∷ 1 ∷ 2 ∷ []) 2 true) (two Until) 2 read-until (so until-yes),
-  (right (judgment p0-until-p1 (1 ∷ []) 0 false) (two Until) 2 read-until (not-so until-no),
-  (right (judgment p0-weak-until-p1 (1 ∷ []) 0 true) (two WeakUntil) 2 read-weak (so weak-yes),
-  (right (judgment eventually-p0 (1 ∷ 0 ∷ []) 1 true) (Signal 0 ∷ Unary Eventually (at 0) ∷ []) 1 read-eventually (so once-yes),
-  (right (judgment always-eventually-p0 (1 ∷ 0 ∷ []) 1 false) (Signal 0 ∷ Unary Eventually (at 0) ∷ Unary Always (at 1) ∷ []) 2 read-always (not-so often-no),
-  tt)))))
+  (
+    right (judgment p0-until-p1 (1 ∷ []) 0 false) (two Until) 2 read-until (not-so until-no),
+    (
+      right (judgment p0-weak-until-p1 (1 ∷ []) 0 true) (two WeakUntil) 2 read-weak (so weak-yes),
+      (
+        right (judgment eventually-p0 (1 ∷ 0 ∷ []) 1 true) (Signal 0 ∷ Unary Eventually (at 0) ∷ []) 1 read-eventually (so once-yes),
+        (
+          right (judgment always-eventually-p0 (1 ∷ 0 ∷ []) 1 false) (Signal 0 ∷ Unary Eventually (at 0) ∷ Unary Always (at 1) ∷ []) 2 read-always (not-so often-no),
+          tt,
+        ),
+      ),
+    ),
+  ),
+)

@@ -13,11 +13,15 @@ use rules::node::Place;
 fn law_stands()
     ensures law { λ _. ⌜ OneVerdict ⌝ }
     ensures worked { λ _. ⌜ WorkedJudgments ⌝ }
-{
-}
+{}
 
 // Judges the rule at a place of the book on a recording, under the law over all logs.
-pub fn give_verdict<R: Recording>(book: &Book, place: Place, recording: &R, work: &mut [u64]) -> Result<bool, JudgeFault>
+pub fn give_verdict<R: Recording>(
+    book: &Book,
+    place: Place,
+    recording: &R,
+    work: &mut [u64],
+) -> Result<bool, JudgeFault>
     ensures judged { λ r. ⌜ Judges (entries (now (book .entry))) place (meaning (now (recording .entry))) (now (work .entry)) r (now (work .exit)) ⌝ }
     ensures law { λ _. ⌜ OneVerdict ⌝ }
     ensures worked { λ _. ⌜ WorkedJudgments ⌝ }
@@ -38,7 +42,12 @@ mod tests {
     use std::test::*;
 
     // Reads a rule file and judges it on the words with the loop start.
-    fn judged(file: &[u8], words: &[u64], loop_start: usize, work: &mut [u64]) -> Result<bool, Fail> {
+    fn judged(
+        file: &[u8],
+        words: &[u64],
+        loop_start: usize,
+        work: &mut [u64],
+    ) -> Result<bool, Fail> {
         let mut book = Book::new();
         let Ok(place) = read(&mut book, file) else {
             return Err(Fail::new("the rule is refused"));

@@ -24,10 +24,10 @@ loop-scan-again-then-value-denied g c =
     let l = g .R·Recording .meaning (c .args .recording .now) in
     let inside = g .R·Recording .sound (c .args .recording .now) .inside in
     let noted =
-      fill-noted (c .args .node) l inside (c .args .place .index) (c .pre .few) (c .pre .lower) (c .args .work .now) (c .pre .enough)
-      (c .loop-scan .scan) (c .loop-scan .value) (c .before-value .result) (c .loop-scan .work) (c .turn-at .result) (c .loop-scan .inv) (omega arith) (omega arith)
-      (record { holds = c .turn-at .ensures .hold; passes = c .turn-at .ensures .pass }) (c .before-value .ensures)
-      (told-other (c .before-value .result) (c .denies-denied .result) _ (c .if-value-denied .taken) (c .denies-denied .ensures))
+    fill-noted (c .args .node) l inside (c .args .place .index) (c .pre .few) (c .pre .lower) (c .args .work .now) (c .pre .enough)
+    (c .loop-scan .scan) (c .loop-scan .value) (c .before-value .result) (c .loop-scan .work) (c .turn-at .result) (c .loop-scan .inv) (omega arith) (omega arith)
+    (record { holds = c .turn-at .ensures .hold; passes = c .turn-at .ensures .pass }) (c .before-value .ensures)
+    (told-other (c .before-value .result) (c .denies-denied .result) _ (c .if-value-denied .taken) (c .denies-denied .ensures))
     in
     subst (Filled (c .args .node) l (c .args .place .index) (c .args .work .now) _ (c .before-value .result)) (sym (c .note .ensures)) noted
 

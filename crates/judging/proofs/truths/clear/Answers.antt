@@ -13,7 +13,7 @@ loop-at-again c =
     let at = c .loop-at .at in
     let inside : at < length work = omega arith in (
       below-more _ _
-      (λ k h. let ne : k ≢ at = omega arith in getD-set-other work at k 0 0 ne ∙ c .loop-at .inv .0 k h)
-      (getD-set-same work at 0 0 inside),
+          (λ k h. let ne : k ≢ at = omega arith in getD-set-other work at k 0 0 ne ∙ c .loop-at .inv .0 k h)
+          (getD-set-same work at 0 0 inside),
       drop-set-lt (c .args .words) work at 0 (c .loop-at-test .taken) ∙ c .loop-at .inv .1,
     )

@@ -48,7 +48,7 @@ returns c =
           let l = ap lengthFor is in
           let n = w .node-is in
           let s = unary-words (getD bs 0 0) (w .in-Unary .op) (past 1 bs) (search needs) in
-          let v = w .operand .ensures in
+          let v = w .place-at .ensures in
           cc
       | in-Binary·in-len2-up-rest-2·in-len2-up-more w ↦
           let is : Some (command.Binary (w .in-Binary .op)) ≡ commandOf (getD bs 0 0) = ap Some (sym (w .in-Binary .is)) ∙ told in
@@ -56,8 +56,8 @@ returns c =
           let l = ap lengthFor is in
           let n = w .node-is in
           let s = binary-words (getD bs 0 0) (w .in-Binary .op) (past 1 bs) (search needs) in
-          let v = w .operand-in-Binary .ensures in
-          let u = w .operand-in-Binary-2 .ensures in
+          let v = w .place-at-a .ensures in
+          let u = w .place-at-in-Binary .ensures in
           let p = at-past 2 (past 1 bs) 0 in
           let q = at-past 2 (past 1 bs) 1 in
           cc

@@ -1,0 +1,3 @@
+// The core form of a rule in the book, written once for each place and polarity.
+pub mod draft;
+pub mod putting;
