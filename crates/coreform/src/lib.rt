@@ -1,3 +1,5 @@
 // The core form of a rule in the book, written once for each place and polarity.
 pub mod draft;
+pub mod numbers;
 pub mod putting;
+pub mod remembering;

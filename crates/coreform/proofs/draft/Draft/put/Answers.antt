@@ -50,5 +50,5 @@ returns c = λ sheet n is same.
     let here : d .count ≡ k = omega arith in
     let inside : k < length (d .nodes) = omega arith in
     let more : take (k + 1) (set (d .nodes) k (c .args .node)) ≡ sheetOf d ++ n ∷ [] =
-      take-more-set (d .nodes) k (c .args .node) inside ∙ (λ i. take (sym here i) (d .nodes) ++ same free i ∷ []) in
+    take-more-set (d .nodes) k (c .args .node) inside ∙ (λ i. take (sym here i) (d .nodes) ++ same free i ∷ []) in
     next-put d sheet n _ k free free is (c .number-of-number .ensures .value ∙ ap (λ x. numberOn x (sheetOf d)) (same free)) (omega arith) more
