@@ -1,2 +1,5 @@
-pub mod Numbers
+pub mod Cooking
 pub mod Drafting
+pub mod Memory
+pub mod Numbering
+pub mod Right

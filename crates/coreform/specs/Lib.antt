@@ -1,2 +1,4 @@
 pub mod Drafts
+pub mod Recipes
 pub mod Remembered
+pub mod Writing

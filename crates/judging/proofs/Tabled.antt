@@ -27,13 +27,6 @@ use Rattle.judging.specs.Truths.{told, wordOf, bitOf}
 use Rattle.judging.proofs.Noted.{told-none}
 use Rattle.judging.proofs.Operators.{plain, unary-right, binary-right}
 
--- what `Book::get` answers at a place that is entered
-pub node-there : (book : List Node) (k : ℕ) (node : Node) → k < length book → Some node ≡ cond (ltb k (length book)) (Some (getD book k True)) None → node ≡ getD book k True
-node-there book k node h e = let q : Some node ≡ Some (getD book k True) = e ∙ cond-true _ _ _ (lt-ltb k (length book) h) in cc
-
-pub none-there : (book : List Node) (k : ℕ) → k < length book → _≡_ {A = Option Node} None (cond (ltb k (length book)) (Some (getD book k True)) None) → ⊥
-none-there book k h e = let q : _≡_ {A = Option Node} None (Some (getD book k True)) = e ∙ cond-true _ _ _ (lt-ltb k (length book) h) in let z : _≡_ {A = ℕ} 0 1 = cc in omega arith
-
 module _ (book : List Node) (ordered : Ordered book) (few : length book ≤ 256) (l : Lasso) (inside : l .start < length (l .words)) where
   -- what the list tells of a place at the scan of a position is so at the position
   told-right : (p : ℕ) (work : List ℕ) → Tabled book l p work → p ≤ 256 → (q : ℕ) → q < p → (k : ℕ) → Decides (told work (scanAt l k) q) (Holds (ruleAt book q) (unrolled l) k)

@@ -4,7 +4,7 @@ use native.Mathlib.Omega.{arith}
 use lib.ListN.{length, drop}
 use Rattle.std.proofs.shelf.Lists.{at-drop-all}
 use Rattle.automata.specs.Sheets.{numberOn}
-use Rattle.coreform.proofs.Numbers.{eq-is-same, number-here, number-further}
+use Rattle.coreform.proofs.Numbering.{eq-is-same, number-here, number-further}
 use Rattle.coreform.proofs.putting.number_on.Needs as need
 
 pub returns-then-eq : need.returns-then-eq

@@ -6,11 +6,11 @@ use lib.ListN.{length, drop}
 use Rattle.std.specs.Orderings.{Decides}
 use Rattle.rules.specs.Books.{entries}
 use Rattle.rules.specs.Tables.{fitsAt}
-use Rattle.rules.proofs.Laws.{book-few, book-ordered}
+use Rattle.rules.proofs.Laws.{book-few, book-ordered, node-there, none-there}
 use Rattle.judging.specs.Columns.{Column}
 use Rattle.judging.specs.Tabled.{Tabled}
 use Rattle.judging.specs.Truths.{told}
-use Rattle.judging.proofs.Tabled.{table-starts, table-empty, table-more, node-there, none-there}
+use Rattle.judging.proofs.Tabled.{table-starts, table-empty, table-more}
 use Rattle.judging.proofs.judge.fill_table.Needs as need
 use Rattle.judging.proofs.judge.fill_table.Needs.{in-Some, in-rest}
 
