@@ -190,3 +190,23 @@ write-stays (cand a b) xs ys = two-again And a b xs (write-stays a xs) (write-st
 write-stays (cor a b) xs ys = two-again Or a b xs (write-stays a xs) (write-stays b _) ys
 write-stays (cuntil a b) xs ys = two-again Until a b xs (write-stays a xs) (write-stays b _) ys
 write-stays (crelease a b) xs ys = two-again Release a b xs (write-stays a xs) (write-stays b _) ys
+
+-- ---- the number of what is written is one of the sheet
+put-root : (n : CoreNode) (xs : List CoreNode) → put n xs .root < length (put n xs .sheet)
+put-root n xs = go (put-case n xs)
+  where
+    go : Case n xs → put n xs .root < length (put n xs .sheet)
+    go (found h e) = subst (λ W. W .root < length (W .sheet)) (sym e) h
+    go (pushed h e) = subst (λ W. W .root < length (W .sheet)) (sym e) (omega (arith, length-append xs (n ∷ [])))
+
+pub write-root : (c : Core) (xs : List CoreNode) → write c xs .root < length (write c xs .sheet)
+unfolding write
+write-root ctrue xs = put-root True xs
+write-root cfalse xs = put-root False xs
+write-root (con s) xs = put-root (On s) xs
+write-root (coff s) xs = put-root (Off s) xs
+write-root (cnext a) xs = put-root _ _
+write-root (cand a b) xs = put-root _ _
+write-root (cor a b) xs = put-root _ _
+write-root (cuntil a b) xs = put-root _ _
+write-root (crelease a b) xs = put-root _ _

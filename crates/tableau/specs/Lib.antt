@@ -1,3 +1,4 @@
+pub mod Beginning
 pub mod Ends
 pub mod Nodes
 pub mod Plans

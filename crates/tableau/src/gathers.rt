@@ -2,7 +2,7 @@
 ghost use mathlib.Core.Path.{_≡_};
 ghost use Prim.Native.Nat.{ℕ, _<_, _≤_};
 ghost use lib.ListN.{length};
-ghost use Rattle.automata.specs.Steps.{onBit, offBit, onSignals, offSignals, isUntil, markOf, marksBelow, stateOf};
+ghost use Rattle.automata.specs.Steps.{onBit, offBit, onSignals, offSignals, isUntil, untilsBelow, markOf, marksBelow, stateOf};
 ghost use Rattle.tableau.specs.Nodes.{Sound};
 use crate::sets::contains;
 use crate::sheets::node_at;
@@ -95,6 +95,18 @@ pub(crate) fn marks(sheet: &[CoreNode], old: CoreSet) -> u64
         untils += is_until(node);
     }
     borne
+}
+
+// How many untils there are on a sheet: each has a mark set.
+pub(crate) fn count_untils(sheet: &[CoreNode]) -> u8
+    requires { ⌜ length (now sheet) ≤ 64 ⌝ }
+    ensures { λ r. ⌜ r ≡ untilsBelow (now (sheet .entry)) (length (now (sheet .entry))) ⌝ }
+{
+    let mut untils = 0;
+    for k in 0..sheet.len() as u8 {
+        untils += is_until(node_at(sheet, k));
+    }
+    untils
 }
 
 // The state of an Old and a Next.

@@ -1,4 +1,5 @@
 // The steps of a translation, over lists that the caller lends.
+pub mod beginning;
 pub mod fault;
 pub(crate) mod finds;
 pub(crate) mod gathers;
