@@ -2,4 +2,5 @@ pub mod Judgments
 pub mod Logged
 pub mod Outcomes
 pub mod Readings
+pub mod Translated
 pub mod Whole

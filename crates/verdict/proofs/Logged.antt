@@ -16,13 +16,14 @@ use Rattle.semantics.specs.Meaning.{Holds}
 use Rattle.semantics.specs.Rules.{ruleAt, SameRule}
 use Rattle.semantics.proofs.Places.{rule-stays, same-tree}
 use Rattle.verdict.specs.Law.{SameRecording}
-use Rattle.verdict.specs.Logs.{BookLog, opened, entered, judged, Answered}
+use Rattle.verdict.specs.Logs.{BookLog, opened, entered, judged, begun, Answered}
 use Rattle.verdict.proofs.Outcomes.{Outcome, outcome, agree}
 
 pub log-sound : {book : List Node} → BookLog book → SoundBook book
 log-sound opened = sound-empty
 log-sound (entered log call) = enters-sound call (log-sound log)
 log-sound (judged log call) = log-sound log
+log-sound (begun log call) = log-sound log
 
 -- what was answered of a book stays right as it grows
 outcome-stays : {before after : List Node} {place : Place} {l : Lasso} {b : Bool} → SoundBook before → Grows before after → Outcome before place l b → Outcome after place l b
@@ -40,6 +41,7 @@ answered-right (entered log call) {place} {l} {b} a = outcome-stays (log-sound l
 answered-right (judged {book = B} {place = p} {recording = m} log call) {place} {l} {b} (inl q) =
     subst (λ x. Outcome B x l b) (q .0) (subst (λ x. Outcome B p x b) (q .1) (outcome call (q .2)))
 answered-right (judged log call) {place} {l} {b} (inr a) = answered-right log a
+answered-right (begun log call) {place} {l} {b} a = answered-right log a
 
 pub answered-alike : {book book′ : List Node} (log : BookLog book) (log′ : BookLog book′) {place place′ : Place} {l l′ : Lasso} {b b′ : Bool}
     → SameRule book book′ (place .index) (place′ .index) → SameRecording l l′ → Answered log place l b → Answered log′ place′ l′ b′ → b ≡ b′

@@ -1,12 +1,15 @@
 -- One verdict: the law over all logs.
 use mathlib.Core.Path.{_≡_}
-use mathlib.Core.Bool.{Bool, true}
-use mathlib.Core.List.{List}
+use mathlib.Core.Bool.{Bool, true, false}
+use mathlib.Core.List.{List, []}
 use mathlib.Core.Logic.{_↔_}
 use Prim.Native.Nat.{ℕ, _<_}
 use lib.ListN.{length}
 use Rattle.std.specs.declared.result.Result.{Result}
 use Rattle.std.specs.declared.result.Result.the-variants.{Ok}
+use Rattle.automata.specs.Cores.{coreOf, Satisfied}
+use Rattle.automata.specs.Sheets.{coreForm}
+use Rattle.automata.specs.Steps.{after}
 use Rattle.rules.specs.Entering.{Enters}
 use Rattle.rules.specs.Reading.{Reading, Reads}
 use Rattle.rules.specs.Tables.{SoundBook, Grows}
@@ -15,9 +18,10 @@ use Rattle.rules.specs.declared.node.Node.{Node}
 use Rattle.rules.specs.declared.node.Place.{Place}
 use Rattle.semantics.specs.Lassos.{Lasso, unrolled}
 use Rattle.semantics.specs.Meaning.{Holds}
-use Rattle.semantics.specs.Rules.{ruleAt, SameRule}
+use Rattle.semantics.specs.Rules.{Rule, ruleAt, SameRule}
+use Rattle.tableau.specs.Stepping.{Standing, Lists, config}
 use Rattle.judging.specs.Judging.{Judges}
-use Rattle.verdict.specs.Logs.{BookLog, Answered}
+use Rattle.verdict.specs.Logs.{BookLog, Answered, done, TranslationLog}
 
 -- recordings of whatever kind are the same when their counts, loop starts and words are
 pub record SameRecording (l l′ : Lasso) : Type 0 where
@@ -52,3 +56,15 @@ pub record OneVerdict : Type 0 where
   pub judged-alike : {book book′ : List Node} (log : BookLog book) (log′ : BookLog book′) (place place′ : Place) (l l′ : Lasso) (verdict verdict′ : Bool)
       → SameRule book book′ (place .index) (place′ .index) → SameRecording l l′
       → Answered log place l verdict → Answered log′ place′ l′ verdict′ → verdict ≡ verdict′
+  -- the core form of a rule holds exactly where the rule does, and that of its denial exactly where it does not
+  pub core-right : (l : Lasso) → l .start < length (l .words) → (r : Rule) (i : ℕ)
+      → (Holds r (unrolled l) i ↔ Satisfied (coreOf r true) (unrolled l) i) × ((¬ Holds r (unrolled l) i) ↔ Satisfied (coreOf r false) (unrolled l) i)
+  -- a finished translation lists what the defined steps make from the core form of its rule
+  pub listed-defined : {book : List Node} {place : Place} {numbers : Standing} {kept : Lists} → TranslationLog book place done numbers kept
+      → let form = coreForm (ruleAt book (place .index)) in
+        (config numbers kept ≡ after (form .sheet) (form .root) (numbers .steps)) × (after (form .sheet) (form .root) (numbers .steps) .pending ≡ [])
+  -- one rule translated to the end twice, in one book or in two, with whatever allowances and lists, has equal states,
+  -- equal arcs and equal step counts
+  pub listed-alike : {book book′ : List Node} {place place′ : Place} {numbers numbers′ : Standing} {kept kept′ : Lists}
+      → SameRule book book′ (place .index) (place′ .index) → TranslationLog book place done numbers kept → TranslationLog book′ place′ done numbers′ kept′
+      → (numbers ≡ numbers′) × (config numbers kept ≡ config numbers′ kept′)
