@@ -19,7 +19,7 @@ use Rattle.semantics.specs.Lassos.{Lasso, wrapped, unrolled, following}
 use Rattle.semantics.specs.Meaning.{bit, Holds}
 use Rattle.semantics.specs.Rules.{Atom, One, Two, ruleWithin, ruleAt}
 use Rattle.semantics.proofs.Loops.{wrapped-lt, wrapped-suc}
-use Rattle.verdict.specs.Worked.{Judgment, judgment, Right, WorkedJudgments, p0-until-p1, p0-weak-until-p1, eventually-p0, always-eventually-p0}
+use Rattle.verdict.specs.Worked.{Judgment, judgment, Right, p0-until-p1, p0-weak-until-p1, eventually-p0, always-eventually-p0}
 use Rattle.verdict.proofs.Outcomes.{outcome, agree}
 
 so : {H : Type 0} → H → (true ≡ true) ↔ H
@@ -38,10 +38,10 @@ right j book k r h = record {
   judges = λ {verdict = v} call. agree v (j .verdict) (outcome call refl .right) h;
 }
 
-two : BinaryOp → List Node
+unfoldable pub two : BinaryOp → List Node
 two op = Signal 0 ∷ Signal 1 ∷ Binary op (at 0) (at 1) ∷ []
 
-read-until : Reads [] p0-until-p1 (rule (at 2)) (two Until)
+pub read-until : Reads [] p0-until-p1 (rule (at 2)) (two Until)
 unfolding same two
 read-until = reads (omega arith) (omega arith)
     (goes-on {length-of = 3} {between = Signal 0 ∷ []} {place = at 0} (record { answers = refl; leaves = refl }) (omega arith)
@@ -55,7 +55,7 @@ read-weak = reads (omega arith) (omega arith)
     (goes-on {length-of = 3} {between = Signal 0 ∷ Signal 1 ∷ []} {place = at 1} (record { answers = refl; leaves = refl }) (omega arith)
     (ends {length-of = 5} (record { answers = refl; leaves = refl }) (omega arith))))
 
-read-eventually : Reads [] eventually-p0 (rule (at 1)) (Signal 0 ∷ Unary Eventually (at 0) ∷ [])
+pub read-eventually : Reads [] eventually-p0 (rule (at 1)) (Signal 0 ∷ Unary Eventually (at 0) ∷ [])
 unfolding same
 read-eventually = reads (omega arith) (omega arith)
     (goes-on {length-of = 3} {between = Signal 0 ∷ []} {place = at 0} (record { answers = refl; leaves = refl }) (omega arith)
@@ -108,21 +108,22 @@ once-yes = (0, omega arith, refl, λ k _ _. tt)
 often-no : ¬ Holds (One Always (One Eventually (Atom 0))) (unrolled (lasso (1 ∷ 0 ∷ []) 1)) 0
 often-no h = h (1, omega arith, (λ u. let e : bit 0 0 ≡ 1 = subst (λ w. bit w 0 ≡ 1) (zeros (u .0) (u .1)) (u .2) in omega arith), λ k _ _. tt)
 
-pub worked : WorkedJudgments
+pub until-holds : Right (judgment p0-until-p1 (1 ∷ 1 ∷ 2 ∷ []) 2 true)
 unfolding two ruleWithin
-worked = (
-  right (judgment p0-until-p1 (1 ∷ 1 ∷ 2 ∷ []) 2 true) (two Until) 2 read-until (so until-yes),
-  (
-    right (judgment p0-until-p1 (1 ∷ []) 0 false) (two Until) 2 read-until (not-so until-no),
-    (
-      right (judgment p0-weak-until-p1 (1 ∷ []) 0 true) (two WeakUntil) 2 read-weak (so weak-yes),
-      (
-        right (judgment eventually-p0 (1 ∷ 0 ∷ []) 1 true) (Signal 0 ∷ Unary Eventually (at 0) ∷ []) 1 read-eventually (so once-yes),
-        (
-          right (judgment always-eventually-p0 (1 ∷ 0 ∷ []) 1 false) (Signal 0 ∷ Unary Eventually (at 0) ∷ Unary Always (at 1) ∷ []) 2 read-always (not-so often-no),
-          tt,
-        ),
-      ),
-    ),
-  ),
-)
+until-holds = right (judgment p0-until-p1 (1 ∷ 1 ∷ 2 ∷ []) 2 true) (two Until) 2 read-until (so until-yes)
+
+pub until-fails : Right (judgment p0-until-p1 (1 ∷ []) 0 false)
+unfolding two ruleWithin
+until-fails = right (judgment p0-until-p1 (1 ∷ []) 0 false) (two Until) 2 read-until (not-so until-no)
+
+pub weak-holds : Right (judgment p0-weak-until-p1 (1 ∷ []) 0 true)
+unfolding two ruleWithin
+weak-holds = right (judgment p0-weak-until-p1 (1 ∷ []) 0 true) (two WeakUntil) 2 read-weak (so weak-yes)
+
+pub once-holds : Right (judgment eventually-p0 (1 ∷ 0 ∷ []) 1 true)
+unfolding ruleWithin
+once-holds = right (judgment eventually-p0 (1 ∷ 0 ∷ []) 1 true) (Signal 0 ∷ Unary Eventually (at 0) ∷ []) 1 read-eventually (so once-yes)
+
+pub often-fails : Right (judgment always-eventually-p0 (1 ∷ 0 ∷ []) 1 false)
+unfolding ruleWithin
+often-fails = right (judgment always-eventually-p0 (1 ∷ 0 ∷ []) 1 false) (Signal 0 ∷ Unary Eventually (at 0) ∷ Unary Always (at 1) ∷ []) 2 read-always (not-so often-no)

@@ -1,4 +1,5 @@
 pub mod Judgments
+pub mod Lines
 pub mod Logged
 pub mod Outcomes
 pub mod Readings

@@ -215,3 +215,11 @@ pub translation-book : {book : List Node} {place : Place} {p : Phase} {s : Stand
 translation-book (logs.began log call) = log
 translation-book (logs.refused log call) = translation-book log
 translation-book (logs.stepped log longer call e) = translation-book log
+
+-- a finished translation has the numbers of the config in which the defined steps end
+pub numbers-at : {book : List Node} {place : Place} {s : Standing} {l : Lists} (n : ℕ) → after (formAt book place .sheet) (formAt book place .root) n .pending ≡ []
+    → TranslationLog book place done s l → s ≡ standingAt (begun (formAt book place)) (after (formAt book place .sheet) (formAt book place .root) n)
+numbers-at {book} {place} {s} {l} n ends log =
+    let F = formAt book place in
+    let a = stands log in
+    recount F done s l a ∙ ap (standingAt (begun F)) (a .is ∙ one-end (F .sheet) (F .root) (a .time) n (a .over) ends)

@@ -2,17 +2,17 @@
 ghost use Rattle.rules.specs.Books.{entries};
 ghost use Rattle.judging.specs.Judging.{Judges};
 ghost use Rattle.verdict.specs.Law.{OneVerdict};
-ghost use Rattle.verdict.specs.Worked.{WorkedJudgments};
+ghost use Rattle.verdict.specs.Worked.{WorkedTable};
 use judging::fault::JudgeFault;
 use judging::judge::judge;
 use models::recording::Recording;
 use rules::book::Book;
 use rules::node::Place;
 
-// The law over all logs stands, and so do the judgments worked on paper.
+// The law over all logs stands, and so does the table worked on paper.
 fn law_stands()
     ensures law { λ _. ⌜ OneVerdict ⌝ }
-    ensures worked { λ _. ⌜ WorkedJudgments ⌝ }
+    ensures worked { λ _. ⌜ WorkedTable ⌝ }
 {}
 
 // Judges the rule at a place of the book on a recording, under the law over all logs.
@@ -24,7 +24,7 @@ pub fn give_verdict<R: Recording>(
 ) -> Result<bool, JudgeFault>
     ensures judged { λ r. ⌜ Judges (entries (now (book .entry))) place (meaning (now (recording .entry))) (now (work .entry)) r (now (work .exit)) ⌝ }
     ensures law { λ _. ⌜ OneVerdict ⌝ }
-    ensures worked { λ _. ⌜ WorkedJudgments ⌝ }
+    ensures worked { λ _. ⌜ WorkedTable ⌝ }
 {
     law_stands();
     judge(book, place, recording, work)

@@ -1,4 +1,4 @@
-use Rattle.verdict.proofs.Judgments.{worked}
+use Rattle.verdict.proofs.Lines.{worked}
 use Rattle.verdict.proofs.Whole.{one-verdict}
 use Rattle.verdict.proofs.law_stands.Needs as need
 
