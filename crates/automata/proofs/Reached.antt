@@ -35,9 +35,9 @@ module _ (sheet : List CoreNode) (root : ℕ) where
   unfolding after
   by-steps zero = refl
   by-steps (suc n) = elim (step-counts sheet (after sheet root n .pending) (after sheet root n)) [
-      | inl e ↦ ap (λ c. after sheet root (c .steps)) e ∙ by-steps n ∙ sym e
-      | inr e ↦ ap (after sheet root) e ∙ ap (oneStep sheet) (by-steps n)
-    ]
+    | inl e ↦ ap (λ c. after sheet root (c .steps)) e ∙ by-steps n ∙ sym e
+    | inr e ↦ ap (after sheet root) e ∙ ap (oneStep sheet) (by-steps n)
+  ]
 
   stuck : (n d : ℕ) → after sheet root n .pending ≡ [] → after sheet root (n + d) ≡ after sheet root n
   unfolding after
@@ -47,9 +47,9 @@ module _ (sheet : List CoreNode) (root : ℕ) where
   -- there is one config in which nothing is pending
   pub one-end : (n k : ℕ) → after sheet root n .pending ≡ [] → after sheet root k .pending ≡ [] → after sheet root n ≡ after sheet root k
   one-end n k p q = elim (decLe n k) [
-      | yes h ↦ let e : k ≡ n + (k - n) = omega arith in sym (ap (after sheet root) e ∙ stuck n (k - n) p)
-      | no h ↦ let e : n ≡ k + (n - k) = omega arith in ap (after sheet root) e ∙ stuck k (n - k) q
-    ]
+    | yes h ↦ let e : k ≡ n + (k - n) = omega arith in sym (ap (after sheet root) e ∙ stuck n (k - n) p)
+    | no h ↦ let e : n ≡ k + (n - k) = omega arith in ap (after sheet root) e ∙ stuck k (n - k) q
+  ]
 
   -- nothing is pending where the answer is finished
   abbrev pub Ended : Progressed → Config → Type 0

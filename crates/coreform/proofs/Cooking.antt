@@ -68,9 +68,9 @@ open-long d sheet free is =
 -- a draft that is not full was not full before
 pub open-before : (d d′ : Draft) (sheet sheet′ : List CoreNode) → Is d sheet → Is d′ sheet′ → length sheet ≤ length sheet′ → d′ .full ≡ false → d .full ≡ false
 open-before d d′ sheet sheet′ is is′ long free = elim (cases-bool (d .full)) [
-    | inl t ↦ absurd (omega (arith, is-full (d .full) _ _ t is, open-long d′ sheet′ free is′))
-    | inr f ↦ f
-  ]
+  | inl t ↦ absurd (omega (arith, is-full (d .full) _ _ t is, open-long d′ sheet′ free is′))
+  | inr f ↦ f
+]
 
 -- ---- the loop
 -- the first steps are made on the draft, and their numbers stand in the list
@@ -116,11 +116,11 @@ module _ (rule : ℕ → Rule) (steps : List Step) (before : Draft) where
 
     at-each : (sheet : List CoreNode) → Is before sheet → d′ .full ≡ false → (i : ℕ) → getD (set list at r) i 0 ≡ getD (m sheet .numbers ++ w sheet .root ∷ []) i 0
     at-each sheet is free i = elim (ℕ-discrete i at) [
-        | yes e ↦
-            subst (λ k. getD (set list at r) k 0 ≡ getD (m sheet .numbers ++ w sheet .root ∷ []) k 0) (sym e)
-            (getD-set-same list at r 0 inside ∙ drafted sheet is .numbered free ∙ sym (getD-push (m sheet .numbers) (w sheet .root) 0 at (long sheet)))
-        | no ne ↦ getD-set-other list at i r 0 ne ∙ old sheet is free i ne
-      ]
+      | yes e ↦
+          subst (λ k. getD (set list at r) k 0 ≡ getD (m sheet .numbers ++ w sheet .root ∷ []) k 0) (sym e)
+          (getD-set-same list at r 0 inside ∙ drafted sheet is .numbered free ∙ sym (getD-push (m sheet .numbers) (w sheet .root) 0 at (long sheet)))
+      | no ne ↦ getD-set-other list at i r 0 ne ∙ old sheet is free i ne
+    ]
 
     pub cook-more : Cooked rule steps before (at + 1) d′ (set list at r)
     cook-more = record {
@@ -149,9 +149,9 @@ full-of-many d t = full-from (d .full) (64 < length too-many) (sheetOf d ≡ too
 module _ (d d′ : Draft) (r : ℕ) (put-on : List CoreNode → Written) (grows : (sheet : List CoreNode) → Begins sheet (put-on sheet .sheet)) (wrote : (sheet : List CoreNode) → Is d sheet → Drafted d′ r (put-on sheet)) (free : d′ .full ≡ false) where
   was-open : d .full ≡ false
   was-open = elim (cases-bool (d .full)) [
-      | inl t ↦ open-before d d′ too-many (put-on too-many .sheet) (full-of-many d t) (wrote too-many (full-of-many d t) .is) (begins-long _ _ (grows too-many)) free
-      | inr f ↦ f
-    ]
+    | inl t ↦ open-before d d′ too-many (put-on too-many .sheet) (full-of-many d t) (wrote too-many (full-of-many d t) .is) (begins-long _ _ (grows too-many)) free
+    | inr f ↦ f
+  ]
 
   pub drafted-grows : (d .full ≡ false) × Begins (sheetOf d) (sheetOf d′)
   drafted-grows =

@@ -31,19 +31,19 @@ use Rattle.semantics.specs.Rules.{Rule, built, ruleAt}
 -- what stands on the draft is written already
 pub writes-again : (d : Draft) (c : Core) (k : ℕ) → (d .full ≡ false → Stands c (sheetOf d) k) → Writes c d k d
 writes-again d c k stands sheet is = elim (cases-bool (d .full)) [
-    | inl t ↦ record {
-        is = full-from (d .full) (64 < length (write c sheet .sheet)) (sheetOf d ≡ write c sheet .sheet) t
-          (omega (arith, is-full (d .full) (64 < length sheet) (sheetOf d ≡ sheet) t is, begins-long sheet (write c sheet .sheet) (write-begins c sheet)));
-        numbered = λ f. absurd (both-ways (d .full) f t);
-      }
-    | inr f ↦
-        let same = is-open (d .full) (64 < length sheet) (sheetOf d ≡ sheet) f is in
-        let e = stays-here c (sheetOf d) k (stands f) in
-        subst (λ s. Drafted d k (write c s)) same (record {
-          is = open-from (d .full) (64 < length (write c (sheetOf d) .sheet)) (sheetOf d ≡ write c (sheetOf d) .sheet) f (sym (ap (λ w. w .sheet) e));
-          numbered = λ _. sym (ap (λ w. w .root) e);
-        })
-  ]
+  | inl t ↦ record {
+    is = full-from (d .full) (64 < length (write c sheet .sheet)) (sheetOf d ≡ write c sheet .sheet) t
+        (omega (arith, is-full (d .full) (64 < length sheet) (sheetOf d ≡ sheet) t is, begins-long sheet (write c sheet .sheet) (write-begins c sheet)));
+    numbered = λ f. absurd (both-ways (d .full) f t);
+  }
+  | inr f ↦
+      let same = is-open (d .full) (64 < length sheet) (sheetOf d ≡ sheet) f is in
+      let e = stays-here c (sheetOf d) k (stands f) in
+      subst (λ s. Drafted d k (write c s)) same (record {
+        is = open-from (d .full) (64 < length (write c (sheetOf d) .sheet)) (sheetOf d ≡ write c (sheetOf d) .sheet) f (sym (ap (λ w. w .sheet) e));
+        numbered = λ _. sym (ap (λ w. w .root) e);
+      })
+]
 
 -- a whole recipe writes the core form of its node
 pub cook-ends : (rule : ℕ → Rule) (steps : List Step) (before : Draft) (at count : ℕ) (d : Draft) (list : List ℕ) (node : Node) (p : Bool) (r : Rule) → Cooked rule steps before at d list

@@ -97,7 +97,15 @@ fn unary_recipe(op: UnaryOp, p: bool, a: Place) -> Recipe
     match (op, p) {
         (UnaryOp::Not, _) => one(Step::Write(a, !p)),
         (UnaryOp::Next, _) => Recipe {
-            steps: [Step::Write(a, p), Step::Next(0), NOTHING, NOTHING, NOTHING, NOTHING, NOTHING],
+            steps: [
+                Step::Write(a, p),
+                Step::Next(0),
+                NOTHING,
+                NOTHING,
+                NOTHING,
+                NOTHING,
+                NOTHING,
+            ],
             count: 2,
         },
         (UnaryOp::Eventually, true) => fixed(CoreNode::True, Joint::Until, a, p),

@@ -51,7 +51,13 @@ fn node_over(step: Step, made: &[u8]) -> CoreNode
 }
 
 // Writes the core form of the rule at a place (true), or of its denial (false), and answers its number.
-pub(crate) fn write(draft: &mut Draft, numbers: &mut Numbers, book: &Book, place: Place, polarity: bool) -> u8
+pub(crate) fn write(
+    draft: &mut Draft,
+    numbers: &mut Numbers,
+    book: &Book,
+    place: Place,
+    polarity: bool,
+) -> u8
     requires entered { ⌜ place .index < length (entries (now book)) ⌝ }
     requires known { ⌜ Known (entries (now book)) (now draft) (now numbers) ⌝ }
     ensures writes { λ r. ⌜ Writes (coreOf (ruleAt (entries (now (book .entry))) (place .index)) polarity) (now (draft .entry)) r (now (draft .exit)) ⌝ }

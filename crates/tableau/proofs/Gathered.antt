@@ -1,12 +1,11 @@
 -- The loops over the core numbers, one number further.
-use mathlib.Core.Path.{_≡_, refl, sym, ap, _∙_}
-use mathlib.Core.Bool.{Bool, true, false, cond}
+use mathlib.Core.Path.{_≡_, sym, ap, _∙_}
+use mathlib.Core.Bool.{true, false, cond}
 use mathlib.Core.List.{List}
-use Prim.Native.Nat.{ℕ, zero, suc, _+_, _≤_, _<_}
+use Prim.Native.Nat.{ℕ, zero, suc, _+_, _≤_}
 use native.Mathlib.Numerals.{add-one}
 use native.Mathlib.Omega.{arith}
 use lib.Bits.{bitOr, or-zero-r}
-use lib.ListN.{length}
 use Rattle.automata.specs.Sets.{has}
 use Rattle.automata.specs.Steps.{signals, nodeOn, untilsBelow, isUntil, marksBelow, markOf}
 use Rattle.automata.specs.declared.nodes.CoreNode.{CoreNode}

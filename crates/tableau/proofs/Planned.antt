@@ -6,16 +6,15 @@ use Prim.Native.Nat.{ℕ, _+_}
 use lib.Dec.{eqb, leb, ltb}
 use lib.ListN.{length}
 use Rattle.automata.specs.Sets.{insert, remove, lowest, empty}
-use Rattle.automata.specs.Steps.{Config, nodeOn, drops, item, arc, arcAmong, addArc, statesBefore, stateOf, split, taken, settle, stepOn, stepWith, oneStep}
+use Rattle.automata.specs.Steps.{Config, nodeOn, drops, item, arc, arcAmong, statesBefore, stateOf, split, taken, settle, stepOn, stepWith, oneStep}
 use Rattle.automata.specs.declared.items.Arc.{Arc}
 use Rattle.automata.specs.declared.items.Item.{Item}
-use Rattle.automata.specs.declared.items.State.{State}
 use Rattle.automata.specs.declared.nodes.CoreNode.{CoreNode}
 use Rattle.automata.specs.declared.nodes.CoreNode.the-variants.{True, False, On, Off, Next, And, Or, Until, Release}
 use Rattle.automata.specs.declared.nodes.CoreSet.{CoreSet}
 use Rattle.tableau.specs.Plans.{splitPlan, takenPlan, joinPlan, settlePlan, planned, newStates, newArcs, newItems, applied}
 use Rattle.tableau.specs.declared.plans.Plan.{Plan}
-use Rattle.tableau.specs.declared.plans.Plan.the-variants.{Nothing, One, Two, Join, Make}
+use Rattle.tableau.specs.declared.plans.Plan.the-variants.{Nothing, Join, Make}
 
 -- a plan of items only, which are these
 record Only (items : List Item) (p : Plan) : Type 0 where

@@ -1,6 +1,6 @@
 -- The steps made, as the call tells of them.
 use mathlib.Core.Path.{_≡_, refl, sym, ap, subst, _∙_}
-use mathlib.Core.List.{List, _++_, reverse, reverse-reverse}
+use mathlib.Core.List.{List, _++_, reverse-reverse}
 use Prim.Native.Nat.{ℕ, _-_, _≤_}
 use native.Mathlib.Omega.{arith}
 use lib.ListN.{length, take, drop}
@@ -10,7 +10,6 @@ use Rattle.automata.specs.Steps.{Config}
 use Rattle.automata.specs.declared.items.Arc.{Arc}
 use Rattle.automata.specs.declared.items.Item.{Item}
 use Rattle.automata.specs.declared.items.State.{State}
-use Rattle.automata.specs.declared.nodes.CoreNode.{CoreNode}
 use Rattle.tableau.specs.Ends.{walkTold}
 use Rattle.tableau.specs.Stepping.{Lists, lists, Standing, standingAt, advancedBy, shortList, Answer, progress, Written, Steps, stepped}
 use Rattle.tableau.specs.Walks.{configOf, answerOf, Walked}

@@ -1,16 +1,16 @@
 -- One step over the lists.
 use mathlib.Core.Path.{_≡_, refl, sym, ap, subst, _∙_}
 use mathlib.Core.Bool.{Bool, true, false, cond}
-use mathlib.Core.List.{List, [], _∷_, _++_, reverse}
+use mathlib.Core.List.{List, _++_, reverse}
 use Prim.Native.Nat.{ℕ, _+_, _-_, _≤_, _<_}
 use native.Mathlib.Omega.{arith}
 use lib.Dec.{ltb}
-use lib.ListN.{length, getD, take, drop, length-append}
+use lib.ListN.{length, getD, take, length-append}
 use Rattle.std.proofs.shelf.Lists.{length-take-le, length-reverse}
 use Rattle.std.proofs.shelf.Tests.{ltb-false}
 use Rattle.std.specs.declared.option.Option.{Option}
 use Rattle.std.specs.declared.option.Option.the-variants.{Some, None}
-use Rattle.automata.specs.Steps.{Config, Room, Lacking, Progressed, running, no-room, within, oneStep}
+use Rattle.automata.specs.Steps.{Config, Progressed, running, no-room, within, oneStep}
 use Rattle.automata.specs.Steps.{steps as no-steps, states as no-states, arcs as no-arcs, pending as no-pending}
 use Rattle.automata.specs.declared.items.Arc.{Arc}
 use Rattle.automata.specs.declared.items.Item.{Item}
@@ -19,7 +19,7 @@ use Rattle.automata.specs.declared.nodes.CoreNode.{CoreNode}
 use Rattle.tableau.specs.Plans.{planned, newStates, newArcs, newItems, applied, statesWith, arcsWith, itemsWith}
 use Rattle.tableau.specs.Rooms.{countsWith, lackOf, Within}
 use Rattle.tableau.specs.Stepping.{lackingOf}
-use Rattle.tableau.specs.Walks.{configOf, roomIn, Kept, Went, Stuck}
+use Rattle.tableau.specs.Walks.{configOf, roomIn, Went, Stuck}
 use Rattle.tableau.specs.declared.plans.Plan.{Plan}
 use Rattle.tableau.specs.declared.rooms.Counts.{Counts}
 use Rattle.tableau.specs.declared.rooms.Space.{Space}

@@ -1,13 +1,13 @@
 -- Step after step over the lists.
 use mathlib.Core.Path.{_≡_, refl, sym, ap, subst, _∙_}
-use mathlib.Core.List.{List, [], _∷_, _++_, reverse}
+use mathlib.Core.List.{List, [], _∷_, reverse}
 use Prim.Native.Nat.{ℕ, zero, suc, _+_, _-_, _≤_, _<_}
 use native.Mathlib.Omega.{arith}
 use lib.Dec.{eqb}
-use lib.ListN.{length, getD, take, drop}
+use lib.ListN.{length, take, drop}
 use Rattle.std.proofs.shelf.Lists.{drop-drop}
 use Rattle.std.proofs.shelf.Tests.{cond-both, eqb-true, eqb-false}
-use Rattle.automata.specs.Steps.{Config, Room, Progressed, finished, running, no-room, Advanced, within, unlessLacking, unlessFinished, oneStep, advance}
+use Rattle.automata.specs.Steps.{Config, Room, Progressed, finished, running, Advanced, within, unlessLacking, unlessFinished, oneStep, advance}
 use Rattle.automata.specs.declared.items.Arc.{Arc}
 use Rattle.automata.specs.declared.items.Item.{Item}
 use Rattle.automata.specs.declared.items.State.{State}

@@ -1,6 +1,6 @@
 -- What a plan writes, seen as the lists in use.
 use mathlib.Core.Path.{_≡_, refl, sym, ap, _∙_}
-use mathlib.Core.List.{List, [], _∷_, _++_, append-nil, append-assoc, reverse, reverse-append}
+use mathlib.Core.List.{List, [], _∷_, _++_, append-nil, reverse, reverse-append}
 use Prim.Native.Nat.{ℕ, _+_, _-_, _≤_, _<_}
 use native.Mathlib.Omega.{arith}
 use lib.ListN.{length, getD, take, drop, set, length-set}

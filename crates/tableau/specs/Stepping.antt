@@ -16,7 +16,6 @@ use Rattle.automata.specs.declared.items.Item.{Item}
 use Rattle.automata.specs.declared.items.State.{State}
 use Rattle.automata.specs.declared.nodes.CoreNode.{CoreNode}
 use Rattle.tableau.specs.declared.translation.Finished.{Finished as FinishedT}
-use Rattle.tableau.specs.declared.fault.LentList.{LentList}
 use Rattle.tableau.specs.declared.fault.LentList.the-variants.{Sheet, States, Arcs, Pending}
 use Rattle.tableau.specs.declared.translation.Lack.{Lack}
 use Rattle.tableau.specs.declared.translation.Lack.the-variants.{Steps as LackSteps, States as LackStates, Arcs as LackArcs, Pending as LackPending}

@@ -34,11 +34,11 @@ impl ShortFault {
 // Why there is no translation of the rule at a place.
 #[derive(Clone, Copy, PartialEq, Eq, Debug)]
 pub enum BeginFault {
-    // 9: nothing is entered at the place; or 7: the core form has over 64 nodes
+    // nothing is entered at the place, or the core form has over 64 nodes
     Form(FormFault),
-    // 8: the core form has this many untils, over 16
+    // the core form has this many untils, over 16
     TooManyUntils(u8),
-    // 11: a list is shorter than needed
+    // a list is shorter than needed
     Short(ShortFault),
 }
 

@@ -1,6 +1,6 @@
 // What a state keeps of its Old.
 ghost use mathlib.Core.Path.{_≡_};
-ghost use Prim.Native.Nat.{ℕ, _<_, _≤_};
+ghost use Prim.Native.Nat.{_<_, _≤_};
 ghost use lib.ListN.{length};
 ghost use Rattle.automata.specs.Steps.{onBit, offBit, onSignals, offSignals, isUntil, untilsBelow, markOf, marksBelow, stateOf};
 ghost use Rattle.tableau.specs.Nodes.{Sound};

@@ -143,16 +143,7 @@ mod tests {
             summary(step(begun(), &sheet, &mut states, &mut arcs, &mut pending, 9)),
             (0, (4, 2, 3)),
         )?;
-        check_eq(
-            states[0],
-            State {
-                old: set_of(1),
-                next: set_of(0),
-                marks: 0,
-                on: 32,
-                off: 0,
-            },
-        )?;
+        check_eq(states[0], state(1, 0, 0, 32))?;
         check_eq(states[1], no_state())?;
         check_eq(arcs[0], Arc { from: 0, to: 1 })?;
         check_eq(arcs[1], Arc { from: 1, to: 2 })?;
@@ -192,6 +183,27 @@ mod tests {
         )
     }
 
+    fn state(old: u64, next: u64, marks: u64, on: u64) -> State {
+        State {
+            old: set_of(old),
+            next: set_of(next),
+            marks,
+            on,
+            off: 0,
+        }
+    }
+
+    fn until_begun() -> Running {
+        Running {
+            cores: 3,
+            sets: 1,
+            steps: 0,
+            states: 0,
+            arcs: 0,
+            pending: 1,
+        }
+    }
+
     // p until q, and the marks of its states.
     #[test]
     fn one_until() -> Result<(), Fail> {
@@ -199,53 +211,12 @@ mod tests {
         let mut states = [no_state(); 9];
         let mut arcs = [Arc { from: 9, to: 9 }; 20];
         let mut pending = [first_item(); 9];
-        pending[0] = Item {
-            source: 0,
-            new: set_of(4),
-            old: set_of(0),
-            next: set_of(0),
-        };
-        let t = Running {
-            cores: 3,
-            sets: 1,
-            steps: 0,
-            states: 0,
-            arcs: 0,
-            pending: 1,
-        };
-        check_eq(
-            drive(t, &sheet, &mut states, &mut arcs, &mut pending),
-            (0, (12, 3, 6)),
-        )?;
-        check_eq(
-            states[0],
-            State {
-                old: set_of(5),
-                next: set_of(4),
-                marks: 0,
-                on: 1,
-                off: 0,
-            },
-        )?;
-        check_eq(
-            states[1],
-            State {
-                old: set_of(6),
-                next: set_of(0),
-                marks: 1,
-                on: 2,
-                off: 0,
-            },
-        )?;
-        check_eq(
-            states[2],
-            State {
-                old: set_of(0),
-                next: set_of(0),
-                marks: 1,
-                on: 0,
-                off: 0,
-            },
-        )
+        pending[0].new = set_of(4);
+        let end = drive(until_begun(), &sheet, &mut states, &mut arcs, &mut pending);
+        check_eq(end, (0, (12, 3, 6)))?;
+        check_eq(states[0], state(5, 4, 0, 1))?;
+        check_eq(states[1], state(6, 0, 1, 2))?;
+        check_eq(states[2], state(0, 0, 1, 0))?;
+        check_eq(states[3], no_state())
     }
 }

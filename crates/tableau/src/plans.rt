@@ -1,6 +1,6 @@
 // What one step adds, found out before anything is written.
 ghost use mathlib.Core.Path.{_≡_};
-ghost use Prim.Native.Nat.{ℕ, _<_, _≤_};
+ghost use Prim.Native.Nat.{_<_, _≤_};
 ghost use lib.ListN.{length};
 ghost use Rattle.automata.specs.Sets.{lowest as lowestOf};
 ghost use Rattle.automata.specs.Steps.{drops as isDropped, item as itemOf};

@@ -1,6 +1,6 @@
 // Counts of what is in use, and the room there is.
 ghost use mathlib.Core.Path.{_≡_};
-ghost use Prim.Native.Nat.{ℕ, _<_, _≤_};
+ghost use Prim.Native.Nat.{_<_, _≤_};
 ghost use lib.ListN.{length};
 ghost use Rattle.tableau.specs.Plans.{newStates, newArcs, newItems};
 ghost use Rattle.tableau.specs.Rooms.{lackOf, Within};

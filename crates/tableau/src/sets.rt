@@ -1,6 +1,6 @@
 // Sets of core numbers.
 ghost use mathlib.Core.Path.{_≡_};
-ghost use Prim.Native.Nat.{ℕ, _<_};
+ghost use Prim.Native.Nat.{_<_};
 ghost use Rattle.automata.specs.Sets.{has, insert as inserted, remove as removed, lowest as lowestOf, join as joined};
 use automata::nodes::CoreSet;
 

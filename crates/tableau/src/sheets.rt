@@ -1,6 +1,6 @@
 // Reading a sheet of at most 64 core nodes.
 ghost use mathlib.Core.Path.{_≡_};
-ghost use Prim.Native.Nat.{ℕ, _<_, _≤_};
+ghost use Prim.Native.Nat.{_<_, _≤_};
 ghost use lib.ListN.{length};
 ghost use Rattle.automata.specs.Steps.{checked, nodeOn};
 ghost use Rattle.tableau.specs.Nodes.{Sound, bothBelow, soundOn};

@@ -1,6 +1,6 @@
 // The steps of a translation.
 ghost use mathlib.Core.Path.{_≡_};
-ghost use Prim.Native.Nat.{ℕ, _<_, _≤_};
+ghost use Prim.Native.Nat.{_≤_};
 ghost use Rattle.tableau.specs.Ends.{standingOf, walkTold};
 ghost use Rattle.tableau.specs.Stepping.{lists, standing, shortList, progressTold, told, Steps};
 ghost use Rattle.tableau.specs.Walks.{Ended};

@@ -1,6 +1,6 @@
 // Step after step, as long as there is room.
 ghost use mathlib.Core.Path.{_≡_};
-ghost use Prim.Native.Nat.{ℕ, _<_, _≤_};
+ghost use Prim.Native.Nat.{_<_, _≤_};
 ghost use lib.ListN.{length};
 ghost use Rattle.tableau.specs.Rooms.{Within};
 ghost use Rattle.tableau.specs.Walks.{spaceOf, spentAt, Turned, Walked};

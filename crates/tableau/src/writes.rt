@@ -1,6 +1,6 @@
 // Writing what a plan adds.
 ghost use mathlib.Core.Path.{_≡_};
-ghost use Prim.Native.Nat.{ℕ, _+_, _-_, _<_, _≤_};
+ghost use Prim.Native.Nat.{_+_, _-_, _<_, _≤_};
 ghost use lib.ListN.{length};
 ghost use Rattle.tableau.specs.Plans.{newStates, newArcs, newItems, statesWith, arcsWith, itemsWith};
 ghost use Rattle.tableau.specs.Rooms.{countsWith};

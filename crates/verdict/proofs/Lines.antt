@@ -38,12 +38,12 @@ listed line book k r e n = record {
 list-true : Listed (listing just-true 2 3 0 4)
 unfolding same sheets.same write after trailingZeros ruleWithin
 list-true = listed (listing just-true 2 3 0 4) (True ∷ []) 0 (reads (omega arith) (omega arith) (ends {length-of = 1} (record { answers = refl; leaves = refl }) (omega arith))) refl
-  (record { states = refl; arcs = refl; sets = refl; steps = refl })
+    (record { states = refl; arcs = refl; sets = refl; steps = refl })
 
 list-false : Listed (listing just-false 0 0 0 1)
 unfolding same sheets.same write after trailingZeros ruleWithin
 list-false = listed (listing just-false 0 0 0 1) (False ∷ []) 0 (reads (omega arith) (omega arith) (ends {length-of = 1} (record { answers = refl; leaves = refl }) (omega arith))) refl
-  (record { states = refl; arcs = refl; sets = refl; steps = refl })
+    (record { states = refl; arcs = refl; sets = refl; steps = refl })
 
 list-until : Listed (listing p0-until-p1 3 6 1 12)
 unfolding two same sheets.same write after trailingZeros ruleWithin
@@ -56,46 +56,59 @@ list-eventually = listed (listing eventually-p0 3 6 1 12) (Signal 0 ∷ Unary Ev
 list-always : Listed (listing always-p0 1 2 0 8)
 unfolding same sheets.same write after trailingZeros ruleWithin
 list-always = listed (listing always-p0 1 2 0 8) (Signal 0 ∷ Unary Always (at 0) ∷ []) 1
-  (reads (omega arith) (omega arith)
-  (goes-on {length-of = 3} {between = Signal 0 ∷ []} {place = at 0} (record { answers = refl; leaves = refl }) (omega arith)
-  (ends {length-of = 3} (record { answers = refl; leaves = refl }) (omega arith))))
-  refl (record { states = refl; arcs = refl; sets = refl; steps = refl })
+    (reads (omega arith) (omega arith)
+    (goes-on {length-of = 3} {between = Signal 0 ∷ []} {place = at 0} (record { answers = refl; leaves = refl }) (omega arith)
+    (ends {length-of = 3} (record { answers = refl; leaves = refl }) (omega arith))))
+    refl (record { states = refl; arcs = refl; sets = refl; steps = refl })
 
 list-next : Listed (listing next-p0 3 4 0 6)
 unfolding same sheets.same write after trailingZeros ruleWithin
 list-next = listed (listing next-p0 3 4 0 6) (Signal 0 ∷ Unary Next (at 0) ∷ []) 1
-  (reads (omega arith) (omega arith)
-  (goes-on {length-of = 3} {between = Signal 0 ∷ []} {place = at 0} (record { answers = refl; leaves = refl }) (omega arith)
-  (ends {length-of = 3} (record { answers = refl; leaves = refl }) (omega arith))))
-  refl (record { states = refl; arcs = refl; sets = refl; steps = refl })
+    (reads (omega arith) (omega arith)
+    (goes-on {length-of = 3} {between = Signal 0 ∷ []} {place = at 0} (record { answers = refl; leaves = refl }) (omega arith)
+    (ends {length-of = 3} (record { answers = refl; leaves = refl }) (omega arith))))
+    refl (record { states = refl; arcs = refl; sets = refl; steps = refl })
 
 list-or : Listed (listing p0-or-p0 2 3 0 7)
 unfolding same sheets.same write after trailingZeros ruleWithin
 list-or = listed (listing p0-or-p0 2 3 0 7) (Signal 0 ∷ Binary Or (at 0) (at 0) ∷ []) 1
-  (reads (omega arith) (omega arith)
-  (goes-on {length-of = 3} {between = Signal 0 ∷ []} {place = at 0} (record { answers = refl; leaves = refl }) (omega arith)
-  (ends {length-of = 5} (record { answers = refl; leaves = refl }) (omega arith))))
-  refl (record { states = refl; arcs = refl; sets = refl; steps = refl })
+    (reads (omega arith) (omega arith)
+    (goes-on {length-of = 3} {between = Signal 0 ∷ []} {place = at 0} (record { answers = refl; leaves = refl }) (omega arith)
+    (ends {length-of = 5} (record { answers = refl; leaves = refl }) (omega arith))))
+    refl (record { states = refl; arcs = refl; sets = refl; steps = refl })
 
 list-clash : Listed (listing p0-and-not-p0 0 0 0 3)
 unfolding same sheets.same write after trailingZeros ruleWithin
 list-clash = listed (listing p0-and-not-p0 0 0 0 3) (Signal 0 ∷ Unary Not (at 0) ∷ Binary And (at 0) (at 1) ∷ []) 2
-  (reads (omega arith) (omega arith)
-  (goes-on {length-of = 3} {between = Signal 0 ∷ []} {place = at 0} (record { answers = refl; leaves = refl }) (omega arith)
-  (goes-on {length-of = 3} {between = Signal 0 ∷ Unary Not (at 0) ∷ []} {place = at 1} (record { answers = refl; leaves = refl }) (omega arith)
-  (ends {length-of = 5} (record { answers = refl; leaves = refl }) (omega arith)))))
-  refl (record { states = refl; arcs = refl; sets = refl; steps = refl })
+    (reads (omega arith) (omega arith)
+    (goes-on {length-of = 3} {between = Signal 0 ∷ []} {place = at 0} (record { answers = refl; leaves = refl }) (omega arith)
+    (goes-on {length-of = 3} {between = Signal 0 ∷ Unary Not (at 0) ∷ []} {place = at 1} (record { answers = refl; leaves = refl }) (omega arith)
+    (ends {length-of = 5} (record { answers = refl; leaves = refl }) (omega arith)))))
+    refl (record { states = refl; arcs = refl; sets = refl; steps = refl })
 
 list-clash-back : Listed (listing not-p0-and-p0 0 0 0 3)
 unfolding same sheets.same write after trailingZeros ruleWithin
 list-clash-back = listed (listing not-p0-and-p0 0 0 0 3) (Signal 0 ∷ Unary Not (at 0) ∷ Binary And (at 1) (at 0) ∷ []) 2
-  (reads (omega arith) (omega arith)
-  (goes-on {length-of = 3} {between = Signal 0 ∷ []} {place = at 0} (record { answers = refl; leaves = refl }) (omega arith)
-  (goes-on {length-of = 3} {between = Signal 0 ∷ Unary Not (at 0) ∷ []} {place = at 1} (record { answers = refl; leaves = refl }) (omega arith)
-  (ends {length-of = 5} (record { answers = refl; leaves = refl }) (omega arith)))))
-  refl (record { states = refl; arcs = refl; sets = refl; steps = refl })
+    (reads (omega arith) (omega arith)
+    (goes-on {length-of = 3} {between = Signal 0 ∷ []} {place = at 0} (record { answers = refl; leaves = refl }) (omega arith)
+    (goes-on {length-of = 3} {between = Signal 0 ∷ Unary Not (at 0) ∷ []} {place = at 1} (record { answers = refl; leaves = refl }) (omega arith)
+    (ends {length-of = 5} (record { answers = refl; leaves = refl }) (omega arith)))))
+    refl (record { states = refl; arcs = refl; sets = refl; steps = refl })
 
 pub worked : WorkedTable
-worked =
-    (until-holds, (until-fails, (weak-holds, (once-holds, (often-fails,
-    (list-true, (list-false, (list-until, (list-always, (list-or, (list-next, (list-clash, (list-clash-back, (list-eventually, tt))))))))))))))
+worked = (
+  until-holds,
+  (
+    until-fails,
+    (
+      weak-holds,
+      (
+        once-holds,
+        (
+          often-fails,
+          (list-true, (list-false, (list-until, (list-always, (list-or, (list-next, (list-clash, (list-clash-back, (list-eventually, tt))))))))),
+        ),
+      ),
+    ),
+  ),
+)

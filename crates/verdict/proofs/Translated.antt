@@ -17,7 +17,7 @@ use Rattle.rules.specs.declared.node.Node.{Node}
 use Rattle.rules.specs.declared.node.Place.{Place}
 use Rattle.semantics.specs.Rules.{ruleAt, SameRule}
 use Rattle.semantics.proofs.Places.{same-tree}
-use Rattle.tableau.specs.Beginning.{cores, untils, begun, firstItem, Begins} 
+use Rattle.tableau.specs.Beginning.{cores, untils, begun, firstItem, Begins}
 use Rattle.tableau.specs.Beginning as beginning
 use Rattle.tableau.specs.Stepping.{Standing, Lists, lists, config, standingAt, roomOf, advancedBy, Answer, refusal, progress, Steps}
 use Rattle.tableau.specs.Stepping as stepping

@@ -62,7 +62,7 @@ pub record OneVerdict : Type 0 where
   -- a finished translation lists what the defined steps make from the core form of its rule
   pub listed-defined : {book : List Node} {place : Place} {numbers : Standing} {kept : Lists} → TranslationLog book place done numbers kept
       → let form = coreForm (ruleAt book (place .index)) in
-        (config numbers kept ≡ after (form .sheet) (form .root) (numbers .steps)) × (after (form .sheet) (form .root) (numbers .steps) .pending ≡ [])
+      (config numbers kept ≡ after (form .sheet) (form .root) (numbers .steps)) × (after (form .sheet) (form .root) (numbers .steps) .pending ≡ [])
   -- one rule translated to the end twice, in one book or in two, with whatever allowances and lists, has equal states,
   -- equal arcs and equal step counts
   pub listed-alike : {book book′ : List Node} {place place′ : Place} {numbers numbers′ : Standing} {kept kept′ : Lists}

@@ -97,9 +97,9 @@ loop-at-again t c =
           let more = take-more steps at no-step here in
           let s : Step = getD steps at no-step in
           let cooked = cook-more rule steps before at d d′ list s r (inv .0) more (omega arith) inside
-            (λ ns sheet is same.
-            subst (Drafted d′ r) (sym (stepped-puts rule s ns sheet (w .in-rest-step .not-Write)))
-            (w .put .ensures sheet (nodeOver s ns) is (λ free. w .node-over .ensures ∙ node-same s list ns (same free)))) in
+          (λ ns sheet is same.
+          subst (Drafted d′ r) (sym (stepped-puts rule s ns sheet (w .in-rest-step .not-Write)))
+          (w .put .ensures sheet (nodeOver s ns) is (λ free. w .node-over .ensures ∙ node-same s list ns (same free)))) in
           let grown = known-grows B d d′ n (inv .1) (λ free. drafted-grows d d′ r (λ sheet. put (w .node-over .result) sheet) (λ sheet. put-begins _ sheet) (λ sheet is. w .put .ensures sheet (w .node-over .result) is (λ _. refl)) free) in
           let goal : Goal d′ n r = (cooked, grown, length-set list at r ∙ inv .2) in
           subst (λ d. Goal d (c .match-step .numbers) (c .match-step .made)) (sym (w .draft-is))

@@ -1,7 +1,7 @@
 use native.Mathlib.Omega.{arith}
 use Rattle.automata.specs.Sets.{empty}
 use Rattle.automata.specs.Steps.{item}
-use Rattle.tableau.proofs.Walking.{Going, done, spent, no-room-here, one-more}
+use Rattle.tableau.proofs.Walking.{done, spent, no-room-here, one-more}
 use Rattle.tableau.proofs.walks.advance.Needs as need
 
 pub returns-then-counts-eq0 : need.returns-then-counts-eq0

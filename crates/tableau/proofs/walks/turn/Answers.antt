@@ -1,10 +1,8 @@
-use mathlib.Core.Path.{_≡_}
 use Prim.Native.Nat.{_-_}
-use lib.ListN.{getD, take}
+use lib.ListN.{getD}
 use Rattle.automata.specs.Sets.{empty}
 use Rattle.automata.specs.Steps.{item}
 use Rattle.automata.specs.declared.items.Item.{Item}
-use Rattle.tableau.specs.Plans.{planned}
 use Rattle.tableau.proofs.Turns.{plan-at, stuck, went}
 use Rattle.tableau.proofs.walks.turn.Needs as need
 
