@@ -6,6 +6,7 @@ pub mod ended;
 pub mod underway;
 
 // One that is still running. It is handed on from call to call, and cannot be copied.
+#[derive(Drop)]
 pub struct Running {
     pub(crate) cores: u8,
     pub(crate) sets: u8,
@@ -20,6 +21,7 @@ pub struct Running {
 }
 
 // One whose automaton is made.
+#[derive(Drop)]
 pub struct Finished {
     pub(crate) cores: u8,
     pub(crate) sets: u8,
@@ -41,6 +43,7 @@ pub enum Lack {
 }
 
 // What a call of step comes to.
+#[derive(Drop)]
 pub enum Progress {
     Finished(Finished),
     Running(Running),
@@ -48,6 +51,7 @@ pub enum Progress {
 }
 
 // A refused step hands the translation back.
+#[derive(Drop)]
 pub struct StepRefused {
     pub translation: Running,
     pub fault: ShortFault,
