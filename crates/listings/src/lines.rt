@@ -86,8 +86,7 @@ pub(crate) fn line_at(
         arcs: _,
         sets: _,
         steps: _,
-    } = told
-    {
+    } = told {
         let count = states as usize;
         if number <= count {
             if let Some(state) = lists.states.get(number - 1) {

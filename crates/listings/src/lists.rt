@@ -12,8 +12,11 @@ use std::alloc::Global;
 use tableau::translation::Lack;
 
 const MOST_CORES: usize = 64;
+
 const MOST_STATES: usize = 1023;
+
 const MOST_ARCS: usize = 8191;
+
 const MOST_PENDING: usize = 1024;
 
 const NONE: CoreSet = CoreSet { bits: 0 };

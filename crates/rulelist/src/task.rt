@@ -15,8 +15,11 @@ use std::io::Read;
 const MOST_READ: u64 = 4097;
 
 const MOST_CORES: usize = 64;
+
 const MOST_STATES: usize = 1023;
+
 const MOST_ARCS: usize = 8191;
+
 const MOST_PENDING: usize = 1024;
 
 const NONE: CoreSet = CoreSet { bits: 0 };
