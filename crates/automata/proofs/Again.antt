@@ -47,6 +47,10 @@ same_decides x y = (
       (and_from (eqb (parts x).1 (parts y).1) (eqb (parts x).2 (parts y).2) (eq-eqb (parts x).1 (parts y).1 (ap (λ z. (parts z).1) e)) (eq-eqb (parts x).2 (parts y).2 (ap (λ z. (parts z).2) e))),
 )
 
+-- what says whether two nodes are equal says what `same` says
+pub eq_is_same : (x y : CoreNode) (r : Bool) → Decides r (x ≡ y) → r ≡ same x y
+eq_is_same x y r h = same_from_decides r (same x y) h (same_decides x y)
+
 same_self : (x : CoreNode) → same x x ≡ true
 same_self x = (same_decides x x).1 refl
 

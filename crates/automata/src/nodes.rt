@@ -1,8 +1,7 @@
 // The core form of a rule: nodes of a few kinds, numbered from 0.
 
 ghost use Rattle.std.specs.Prelude.{◌≡◌, Decides};
-ghost use Rattle.std.specs.Cmp.Rules.{comparing};
-ghost use Rattle.std.proofs.Common.{rules};
+ghost use Rattle.automata.specs.Sheets.{same, same_laws};
 
 // Operands are core numbers, which are places on a sheet of core nodes.
 #[derive(Clone, Copy, Debug)]
@@ -20,11 +19,14 @@ pub enum CoreNode {
 }
 
 impl PartialEq for CoreNode {
-    ghost equals = { λ x y r. Decides r (x ≡ y) };
+    ghost eq = { same };
 
-    ghost laws = { Prim.search (comparing, rules) };
+    ghost laws = { same_laws };
 
-    fn eq(&self, other: &CoreNode) -> bool {
+    fn eq(&self, other: &CoreNode) -> bool
+        ensures computed { result ≡ same self.now other.now }
+        ensures equal { Decides result (self.now ≡ other.now) }
+    {
         match (*self, *other) {
             (CoreNode::True, CoreNode::True) => true,
             (CoreNode::False, CoreNode::False) => true,

@@ -14,8 +14,8 @@ use rules::node::{Node, Place};
 
 // The scan after a scan.
 fn next_scan<R: Recording>(recording: &R, scan: usize) -> usize
-    requires { scan < length (meaning recording.now).words }
-    ensures { result ≡ following (length (meaning recording.now).words) (meaning recording.now).start scan }
+    requires { scan < length (R.meaning recording.now).words }
+    ensures { result ≡ following (length (R.meaning recording.now).words) (R.meaning recording.now).start scan }
 {
     if scan + 1 < recording.count() {
         scan + 1
@@ -26,8 +26,8 @@ fn next_scan<R: Recording>(recording: &R, scan: usize) -> usize
 
 // The turn of a node at a scan, from the truths of its operands.
 fn turn_at<R: Recording>(node: Node, recording: &R, work: &[u64], scan: usize) -> Turn
-    requires { (fits_at node 256 ≡ true) × ((scan < length (meaning recording.now).words) × (4 * length (meaning recording.now).words ≤ length work.now)) }
-    ensures hold { result.hold ≡ node_hold node (slice_index (meaning recording.now).words scan) (told work.now scan) (told work.now (following (length (meaning recording.now).words) (meaning recording.now).start scan)) }
+    requires { (fits_at node 256 ≡ true) × ((scan < length (R.meaning recording.now).words) × (4 * length (R.meaning recording.now).words ≤ length work.now)) }
+    ensures hold { result.hold ≡ node_hold node (slice_index (R.meaning recording.now).words scan) (told work.now scan) (told work.now (following (length (R.meaning recording.now).words) (R.meaning recording.now).start scan)) }
     ensures pass { result.pass ≡ node_pass node (told work.now scan) }
 {
     match node {
@@ -53,8 +53,8 @@ fn turn_at<R: Recording>(node: Node, recording: &R, work: &[u64], scan: usize) -
 
 // What the turns of a node say beyond the last scan: one turn of the loop is enough to know.
 fn first_sweep<R: Recording>(node: Node, recording: &R, work: &[u64]) -> bool
-    requires { (fits_at node 256 ≡ true) × (4 * length (meaning recording.now).words ≤ length work.now) }
-    ensures { Decides result (Solution (hold_on node (meaning recording.now) work.now) (pass_on node (meaning recording.now) work.now) (lasts_of node) (length (meaning recording.now).words)) }
+    requires { (fits_at node 256 ≡ true) × (4 * length (R.meaning recording.now).words ≤ length work.now) }
+    ensures { Decides result (Solution (hold_on node (R.meaning recording.now) work.now) (pass_on node (R.meaning recording.now) work.now) (lasts_of node) (length (R.meaning recording.now).words)) }
 {
     let mut value = lasts(node);
     for scan in (recording.loop_start()..recording.count()).rev() {
@@ -67,11 +67,11 @@ fn first_sweep<R: Recording>(node: Node, recording: &R, work: &[u64]) -> bool
 pub(crate) fn fill_column<R: Recording>(node: Node, place: Place, recording: &R, work: &mut [u64])
     requires few { place.index < 256 }
     requires lower { fits_at node place.index ≡ true }
-    requires enough { 4 * length (meaning recording.now).words ≤ length work.old }
-    requires empty { (i : ℕ) → i < length (meaning recording.now).words → told work.old i place.index ≡ false }
-    ensures column { (i : ℕ) → i < length (meaning recording.now).words → Decides (told work.new i place.index) (Column node (meaning recording.now) work.old i) }
-    ensures others { (i q : ℕ) → i < length (meaning recording.now).words → q < 256 → (q ≢ place.index) → told work.new i q ≡ told work.old i q }
-    ensures rest { drop (4 * length (meaning recording.now).words) work.new ≡ drop (4 * length (meaning recording.now).words) work.old }
+    requires enough { 4 * length (R.meaning recording.now).words ≤ length work.old }
+    requires empty { (i : ℕ) → i < length (R.meaning recording.now).words → told work.old i place.index ≡ false }
+    ensures column { (i : ℕ) → i < length (R.meaning recording.now).words → Decides (told work.new i place.index) (Column node (R.meaning recording.now) work.old i) }
+    ensures others { (i q : ℕ) → i < length (R.meaning recording.now).words → q < 256 → (q ≢ place.index) → told work.new i q ≡ told work.old i q }
+    ensures rest { drop (4 * length (R.meaning recording.now).words) work.new ≡ drop (4 * length (R.meaning recording.now).words) work.old }
 {
     let denied = denies(node);
     let mut value = first_sweep(node, recording, work);

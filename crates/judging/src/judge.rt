@@ -14,10 +14,10 @@ use rules::node::Place;
 // Fills the columns of all places up to this one, in their order, in a cleared list.
 fn fill_table<R: Recording>(book: &Book, place: Place, recording: &R, work: &mut [u64])
     requires entered { place.index < length (entries book.now) }
-    requires enough { 4 * length (meaning recording.now).words ≤ length work.old }
-    requires cleared { (k : ℕ) → k < 4 * length (meaning recording.now).words → slice_index work.old k ≡ 0 }
-    ensures table { Tabled (entries book.now) (meaning recording.now) (place.index + 1) work.new }
-    ensures rest { drop (4 * length (meaning recording.now).words) work.new ≡ drop (4 * length (meaning recording.now).words) work.old }
+    requires enough { 4 * length (R.meaning recording.now).words ≤ length work.old }
+    requires cleared { (k : ℕ) → k < 4 * length (R.meaning recording.now).words → slice_index work.old k ≡ 0 }
+    ensures table { Tabled (entries book.now) (R.meaning recording.now) (place.index + 1) work.new }
+    ensures rest { drop (4 * length (R.meaning recording.now).words) work.new ≡ drop (4 * length (R.meaning recording.now).words) work.old }
 {
     let end = place.index + 1;
     for index in 0..end {
@@ -35,7 +35,7 @@ pub fn judge<R: Recording>(
     recording: &R,
     work: &mut [u64],
 ) -> Result<bool, JudgeFault>
-    ensures { Judges (entries book.now) place (meaning recording.now) work.old result work.new }
+    ensures { Judges (entries book.now) place (R.meaning recording.now) work.old result work.new }
 {
     if place.index as usize >= book.len() {
         return Err(JudgeFault::NotInBook(place));

@@ -39,7 +39,7 @@ fn holds<R: Recording>(
     place: Place,
     recording: &R,
 ) -> Result<bool, NoVerdict>
-    ensures { IfOk result (λ yes. Says (entries book.now) place (meaning recording.now) yes) }
+    ensures { IfOk result (λ yes. Says (entries book.now) place (R.meaning recording.now) yes) }
 {
     let needed = WORDS_PER_SCAN * recording.count();
     let mut work = vec![in heap; 0; needed]?;

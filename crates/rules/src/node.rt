@@ -1,7 +1,6 @@
 // What stands at one place of a book: an operator with the places of its operands.
 ghost use Rattle.std.specs.Prelude.{◌≡◌, Decides};
-ghost use Rattle.std.specs.Cmp.Rules.{comparing};
-ghost use Rattle.std.proofs.Common.{rules};
+ghost use Rattle.rules.specs.Nodes.{same, same_laws};
 
 // Where a node stands in a book: nodes are counted from 0 in the order of their entry.
 #[derive(Clone, Copy, PartialEq, Eq, Debug)]
@@ -40,11 +39,14 @@ pub enum Node {
 }
 
 impl PartialEq for Node {
-    ghost equals = { λ x y r. Decides r (x ≡ y) };
+    ghost eq = { same };
 
-    ghost laws = { Prim.search (comparing, rules) };
+    ghost laws = { same_laws };
 
-    fn eq(&self, other: &Node) -> bool {
+    fn eq(&self, other: &Node) -> bool
+        ensures computed { result ≡ same self.now other.now }
+        ensures equal { Decides result (self.now ≡ other.now) }
+    {
         match (*self, *other) {
             (Node::True, Node::True) => true,
             (Node::False, Node::False) => true,

@@ -1,6 +1,6 @@
 -- Judgments and listings worked on paper, from the command bytes on.
 use Rattle.std.specs.Prelude.{◌≡◌, ℕ, Bool, true, false, ◌↔◌, List, [], ◌∷◌, Ok}
-use Rattle.std.specs.List.{AllByRecursion as All}
+use Rattle.std.specs.List.{AllByRecursion}
 use Rattle.rules.specs.Reading.{rule, Reads}
 use Rattle.rules.specs.declared.node.Node.{Node}
 use Rattle.rules.specs.declared.node.Place.{Place}
@@ -121,4 +121,4 @@ Works (judges j) = Right j
 Works (lists l) = Listed l
 
 abbrev pub WorkedTable : Type 0
-WorkedTable = All Works table
+WorkedTable = AllByRecursion Works table

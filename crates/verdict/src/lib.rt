@@ -25,7 +25,7 @@ pub fn give_verdict<R: Recording>(
     recording: &R,
     work: &mut [u64],
 ) -> Result<bool, JudgeFault>
-    ensures judged { Judges (entries book.now) place (meaning recording.now) work.old result work.new }
+    ensures judged { Judges (entries book.now) place (R.meaning recording.now) work.old result work.new }
     ensures law { OneVerdict }
     ensures worked { WorkedTable }
 {

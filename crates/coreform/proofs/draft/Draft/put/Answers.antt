@@ -32,7 +32,7 @@ invariant_of-self-2 c =
     let d = c.args.self.now in
     let within = c.number_of-number.ensures.within in
     let fits = d.fits in
-    (length-set d.nodes _ c.args.node ∙ d.room, (omega arith, tt))
+    record { room = length-set d.nodes _ c.args.node ∙ d.room; fits = omega arith }
 
 pub returns : goal.returns
 returns c = λ sheet n is same.

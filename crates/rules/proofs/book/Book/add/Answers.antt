@@ -29,16 +29,13 @@ invariant_of-self c =
     let l = length-listed b.table b.fits b.room in
     let less : b.table.count < 256 = omega arith in
     let new = sym c.place_of.ensures ∙ c.in_default.is in
-    let more = listed_push b.table c.args.node less b.room in (
-      length-set b.table.nodes b.table.count c.args.node ∙ b.room,
-      (
-        omega arith,
-        (
-          subst Ordered (sym more) (ordered_push (listed b.table) c.args.node b.ordered c.requires),
-          (subst Distinct (sym more) (distinct_push (listed b.table) c.args.node b.distinct new), tt),
-        ),
-      ),
-    )
+    let more = listed_push b.table c.args.node less b.room in
+    record {
+      room = length-set b.table.nodes b.table.count c.args.node ∙ b.room;
+      fits = omega arith;
+      ordered = subst Ordered (sym more) (ordered_push (listed b.table) c.args.node b.ordered c.requires);
+      distinct = subst Distinct (sym more) (distinct_push (listed b.table) c.args.node b.distinct new);
+    }
 
 pub returns : goal.returns
 returns c =
