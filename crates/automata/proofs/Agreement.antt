@@ -1,17 +1,17 @@
 -- On every lasso each rule is decided, its core form holds exactly where it does, and that of its denial exactly
 -- where it does not.
-use Rattle.std.proofs.Common.{◌≡◌, ℕ, zero, suc, ◌+◌, ◌-◌, ◌<◌, ◌≤◌, Bool, true, false, ◌⊎◌, ◌↔◌, length, get_or, sym, refl, ap, ◌∙◌, subst, inl, inr, mod-lt, arith, lit<}
+use Rattle.std.proofs.Common.{◌≡◌, ℕ, zero, suc, ◌+◌, ◌-◌, ◌<◌, ◌≤◌, true, false, ◌⊎◌, ◌↔◌, length, get_or, sym, ap, ◌∙◌, subst, inl, inr, arith}
 use native.Mathlib.Decide.{dec_le, dec_lt, ℕ_discrete}
 use Rattle.rules.specs.declared.node.BinaryOp.{BinaryOp}
 use Rattle.rules.specs.declared.node.BinaryOp.TheVariants.{And, Or, Implies, Equivalent, ExclusiveOr, Until, Release, WeakUntil, StrongRelease}
 use Rattle.rules.specs.declared.node.UnaryOp.{UnaryOp}
 use Rattle.rules.specs.declared.node.UnaryOp.TheVariants.{Not, Next, Eventually, Always}
 use Rattle.semantics.specs.Lassos.{Lasso, unrolled}
-use Rattle.semantics.specs.Meaning.{bit, UntilAt, WeakUntilAt, UnaryAt, BinaryAt, Holds}
+use Rattle.semantics.specs.Meaning.{bit, UntilAt, WeakUntilAt, Holds}
 use Rattle.semantics.specs.Rules.{Rule, Top, Bottom, Atom, One, Two}
 use Rattle.semantics.proofs.Bits.{bit_lt}
 use Rattle.semantics.proofs.Loops.{wrapped_again}
-use Rattle.automata.specs.Cores.{Core, core_of, unary_core, binary_core, ReleasesAt, Satisfied}
+use Rattle.automata.specs.Cores.{core_of, ReleasesAt, Satisfied}
 
 -- ---- decidable facts
 -- some position from i up to m, or none

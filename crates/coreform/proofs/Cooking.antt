@@ -1,16 +1,16 @@
 -- The steps of a recipe, one after the other, on a draft.
-use Rattle.std.proofs.Common.{◌≡◌, ℕ, zero, suc, ◌+◌, ◌-◌, ◌<◌, ◌≤◌, Bool, true, false, ◌≢◌, List, [], ◌∷◌, ◌++◌, length, get_or, take, set, replicate, MatchBool, sym, refl, ap, ◌∙◌, subst, inl, inr, arith}
+use Rattle.std.proofs.Common.{◌≡◌, ℕ, ◌+◌, ◌<◌, ◌≤◌, Bool, true, false, ◌≢◌, List, [], ◌∷◌, ◌++◌, length, get_or, take, set, replicate, sym, refl, ap, ◌∙◌, subst, inl, inr, arith}
 use native.Mathlib.Decide.{dec_lt, ℕ_discrete}
 use Rattle.std.proofs.lemmas.List.{get_or-set_same, get_or-set_other, get_or_append_left, get_or_push, get_or_past, length_push, length-take-le, length-replicate}
-use Rattle.std.proofs.lemmas.Bool.{cases_Bool, both_ways}
-use Rattle.automata.specs.Cores.{Core, core_of}
-use Rattle.automata.specs.Sheets.{Written, put, write}
+use Rattle.std.proofs.lemmas.Bool.{cases_Bool}
+use Rattle.automata.specs.Cores.{core_of}
+use Rattle.automata.specs.Sheets.{Written, put}
 use Rattle.automata.specs.declared.nodes.CoreNode.{CoreNode}
 use Rattle.automata.specs.declared.nodes.CoreNode.TheVariants as core
-use Rattle.automata.proofs.Again.{Begins, begins_long, put_begins, write_begins, stays_more, stays_here, write_stays}
+use Rattle.automata.proofs.Again.{Begins, begins_long, put_begins, write_begins, stays_more}
 use Rattle.coreform.specs.Drafts.{sheet_of, Is, Drafted}
 use Rattle.coreform.specs.Recipes.{joined, Made, node_over, stepped, made}
-use Rattle.coreform.specs.Writing.{Stands, Known, Writes}
+use Rattle.coreform.specs.Writing.{Known}
 use Rattle.coreform.specs.declared.draft.Draft.{Draft}
 use Rattle.coreform.specs.declared.numbers.Numbers.{Numbers}
 use Rattle.coreform.specs.declared.recipe.Step.{Step}

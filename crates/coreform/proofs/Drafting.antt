@@ -1,10 +1,10 @@
 -- One node more on a draft.
-use Rattle.std.proofs.Common.{◌≡◌, ℕ, ◌+◌, ◌<◌, ◌≤◌, Bool, true, false, List, [], ◌∷◌, ◌++◌, length, take, set, MatchBool, sym, refl, ap, ◌∙◌, subst, arith}
-use Rattle.std.proofs.lemmas.List.{length-take-le, take_more_set, length_push}
+use Rattle.std.proofs.Common.{◌≡◌, ℕ, ◌<◌, ◌≤◌, Bool, true, false, List, [], ◌∷◌, ◌++◌, length, MatchBool, sym, refl, ap, ◌∙◌, subst, arith}
+use Rattle.std.proofs.lemmas.List.{length_push}
 use Rattle.std.proofs.lemmas.Bool.{false≢true, both_ways}
-use Rattle.automata.specs.Sheets.{number_on, Written, put}
+use Rattle.automata.specs.Sheets.{number_on, put}
 use Rattle.automata.specs.declared.nodes.CoreNode.{CoreNode}
-use Rattle.automata.proofs.Again.{number_le, put_found, put_new, put_begins, begins_long, written}
+use Rattle.automata.proofs.Again.{put_found, put_new, put_begins, begins_long}
 use Rattle.coreform.specs.Drafts.{sheet_of, Is, Drafted}
 use Rattle.coreform.specs.declared.draft.Draft.{Draft}
 

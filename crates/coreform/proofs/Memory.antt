@@ -1,11 +1,10 @@
 -- What is remembered, and what a whole recipe writes.
-use Rattle.std.proofs.Common.{◌≡◌, ℕ, ◌-◌, ◌<◌, ◌≤◌, Bool, true, false, cond, ◌&&◌, eqb, List, [], length, get_or, take, Some, Option, sym, refl, ap, ◌∙◌, subst, inl, inr, arith}
+use Rattle.std.proofs.Common.{◌≡◌, ℕ, ◌-◌, ◌<◌, ◌≤◌, Bool, true, false, cond, ◌&&◌, eqb, List, [], length, get_or, take, Some, sym, refl, ap, ◌∙◌, subst, inl, inr, arith}
 use mathlib.Core.Bool.{beq}
 use Rattle.std.proofs.lemmas.List.{length-take-le}
 use Rattle.std.proofs.lemmas.Bool.{cases_Bool, both_ways, eqb-true, and_parts, false≢true}
 use Rattle.automata.specs.Cores.{Core, core_of}
-use Rattle.automata.specs.Sheets.{Written, write}
-use Rattle.automata.specs.declared.nodes.CoreNode.{CoreNode}
+use Rattle.automata.specs.Sheets.{write}
 use Rattle.automata.proofs.Again.{begins_long, write_begins, stays_here, write_stays}
 use Rattle.coreform.specs.Drafts.{sheet_of, Is, Drafted}
 use Rattle.coreform.specs.Recipes.{recipe_of, made}

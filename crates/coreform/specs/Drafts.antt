@@ -1,5 +1,5 @@
 -- What a draft stands for.
-use Rattle.std.specs.Prelude.{◌≡◌, ℕ, ◌<◌, Bool, false, List, length, take, MatchBool}
+use Rattle.std.specs.Prelude.{◌≡◌, ℕ, ◌<◌, false, List, length, take, MatchBool}
 use Rattle.automata.specs.Sheets.{Written}
 use Rattle.automata.specs.declared.nodes.CoreNode.{CoreNode}
 use Rattle.coreform.specs.declared.draft.Draft.{Draft}

@@ -1,5 +1,5 @@
 -- The steps that write the core form of a node.
-use Rattle.std.specs.Prelude.{ℕ, Bool, true, false, not, List, [], ◌∷◌, ◌++◌, length, slice_index}
+use Rattle.std.specs.Prelude.{ℕ, Bool, true, false, not, List, [], ◌∷◌, ◌++◌, slice_index}
 use Rattle.automata.specs.Cores.{core_of}
 use Rattle.automata.specs.Sheets.{Written, put, write}
 use Rattle.automata.specs.declared.nodes.CoreNode.{CoreNode}

@@ -1,7 +1,7 @@
 -- Writing with a memory: what is remembered stands on the draft.
 use Rattle.std.specs.Prelude.{◌≡◌, ℕ, ◌<◌, Bool, false, List, ◌++◌, Some}
 use Rattle.automata.specs.Cores.{Core, core_of}
-use Rattle.automata.specs.Sheets.{Written, write}
+use Rattle.automata.specs.Sheets.{write}
 use Rattle.automata.specs.declared.nodes.CoreNode.{CoreNode}
 use Rattle.coreform.specs.Drafts.{sheet_of, Is, Drafted}
 use Rattle.coreform.specs.Remembered.{number_of}

@@ -1,7 +1,7 @@
 -- The sweeps over the scans of a recording, one scan back at a time.
-use Rattle.std.proofs.Common.{◌≡◌, ℕ, suc, ◌+◌, ◌-◌, ◌<◌, ◌≤◌, Bool, true, ◌&&◌, ◌||◌, List, length, get_or, Decides, sym, refl, ap, ◌∙◌, subst, arith}
+use Rattle.std.proofs.Common.{◌≡◌, ℕ, suc, ◌+◌, ◌-◌, ◌<◌, ◌≤◌, Bool, ◌&&◌, ◌||◌, List, length, get_or, Decides, sym, ap, ◌∙◌, subst, arith}
 use Rattle.rules.specs.declared.node.Node.{Node}
-use Rattle.semantics.specs.Lassos.{Lasso, scan_at, unrolled, following}
+use Rattle.semantics.specs.Lassos.{Lasso, scan_at, following}
 use Rattle.semantics.specs.Solutions.{Solution}
 use Rattle.semantics.proofs.Loops.{wrapped_low, wrapped-suc, wrapped_again}
 use Rattle.semantics.proofs.Sweeps.{Reached, reached_end, reached_back, solution_back, first_sweep}

@@ -1,9 +1,9 @@
 -- Filling one column of the work list from the last scan back.
-use Rattle.std.proofs.Common.{◌≡◌, ℕ, suc, ◌+◌, ◌-◌, ◌*◌, ◌<◌, ◌≤◌, Bool, true, false, not, ◌&&◌, ◌||◌, ltb, ◌≢◌, List, length, get_or, drop, set, Decides, sym, refl, ap, ◌∙◌, subst, arith}
+use Rattle.std.proofs.Common.{◌≡◌, ℕ, suc, ◌-◌, ◌*◌, ◌<◌, ◌≤◌, Bool, true, false, not, ◌&&◌, ◌||◌, ltb, ◌≢◌, List, length, drop, Decides, sym, refl, ap, ◌∙◌, subst, arith}
 use mathlib.Core.Bool.{beq}
 use native.Mathlib.Decide.{ℕ_discrete}
 use Rattle.std.proofs.lemmas.List.{drop-set-lt, length-set}
-use Rattle.std.proofs.lemmas.Bool.{both_ways, false≢true, ltb-true, and_parts, cond_both}
+use Rattle.std.proofs.lemmas.Bool.{false≢true, ltb-true, and_parts, cond_both}
 use Rattle.rules.specs.Tables.{fits_at}
 use Rattle.rules.specs.declared.node.Node.{Node}
 use Rattle.rules.specs.declared.node.Node.TheVariants.{True, False, Signal, Unary, Binary}
@@ -11,7 +11,7 @@ use Rattle.semantics.specs.Lassos.{Lasso, following}
 use Rattle.semantics.specs.Solutions.{Solution}
 use Rattle.judging.specs.Columns.{hold_on, pass_on, Denied, Column}
 use Rattle.judging.specs.Truths.{told, word_of}
-use Rattle.judging.specs.Turns.{unary_hold, unary_pass, binary_hold, binary_pass, node_hold, node_pass, lasts_of, denies_of}
+use Rattle.judging.specs.Turns.{unary_hold, binary_hold, binary_pass, node_hold, node_pass, lasts_of, denies_of}
 use Rattle.judging.specs.declared.turn.Turn.{Turn}
 use Rattle.judging.proofs.Back.{Turns, column_back}
 use Rattle.judging.proofs.Noted.{noted, told-noted, told_else}

@@ -1,14 +1,14 @@
 -- The work list, place after place.
-use Rattle.std.proofs.Common.{◌≡◌, ℕ, suc, ◌+◌, ◌*◌, ◌/◌, ◌%◌, ◌<◌, ◌≤◌, Bool, true, false, cond, eqb, ltb, ◌↔◌, List, length, get_or, drop, Some, None, Decides, Option, sym, refl, ap, ◌∙◌, subst, arith}
+use Rattle.std.proofs.Common.{◌≡◌, ℕ, ◌+◌, ◌*◌, ◌<◌, ◌≤◌, Bool, true, false, eqb, ltb, ◌↔◌, List, length, get_or, Decides, sym, refl, ◌∙◌, subst, arith}
 use native.Mathlib.Decide.{ℕ_discrete}
-use Rattle.std.proofs.lemmas.Bool.{false≢true, eqb-true, eq-eqb, ltb-true, lt-ltb, and_parts, cond-true}
+use Rattle.std.proofs.lemmas.Bool.{false≢true, eqb-true, eq-eqb, ltb-true, and_parts}
 use Rattle.std.proofs.lemmas.Bool.Decides.{Decides-like}
 use Rattle.rules.specs.Tables.{fits_at, Ordered}
 use Rattle.rules.specs.declared.node.Node.{Node}
 use Rattle.rules.specs.declared.node.Node.TheVariants.{True, False, Signal, Unary, Binary}
 use Rattle.semantics.specs.Lassos.{Lasso, scan_at, unrolled}
 use Rattle.semantics.specs.Meaning.{bit, Holds}
-use Rattle.semantics.specs.Rules.{Rule, built, rule_at}
+use Rattle.semantics.specs.Rules.{built, rule_at}
 use Rattle.semantics.proofs.Loops.{wrapped_lt, holds_wrapped}
 use Rattle.semantics.proofs.Places.{rule_opens}
 use Rattle.judging.specs.Columns.{Column}

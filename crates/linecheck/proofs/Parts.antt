@@ -1,7 +1,7 @@
 -- The parts of a line that says an edge: the first space ends the digits of the scan.
 use Rattle.std.proofs.Common.{◌≡◌, ℕ, zero, suc, ◌+◌, ◌*◌, ◌<◌, Bool, true, false, cond, eqb, leb, List, [], ◌∷◌, length, get_or, Some, None, Option, subst, arith, lit<, Bor, MatchOption}
 use Rattle.std.proofs.lemmas.Str.Pattern.{IsSplitOnceResult, split_after}
-use Rattle.texts.specs.Numerals.{and_then, digit_below, onward, numeral}
+use Rattle.texts.specs.Numerals.{and_then, digit_below, onward}
 use Rattle.linecheck.specs.Lines.{SaysEdge}
 
 pub never : {A : Type 0} (x : A) → None ≡ Some x → ⊥

@@ -1,5 +1,5 @@
 -- A call of step that answers running has made all its steps, and the lists are long enough for the next.
-use Rattle.std.proofs.Common.{◌≡◌, ℕ, zero, suc, ◌+◌, ◌<◌, ◌≤◌, Bool, true, false, cond, eqb, ltb, List, [], ◌∷◌, ◌++◌, reverse, length, take, drop, Some, None, Ok, Err, Option, Result, sym, refl, ap, ◌∙◌, subst, arith, length-append, length-take, ltb-false, le-ltb}
+use Rattle.std.proofs.Common.{◌≡◌, ℕ, zero, suc, ◌+◌, ◌<◌, ◌≤◌, Bool, true, false, cond, eqb, ltb, List, [], ◌∷◌, ◌++◌, reverse, length, take, Some, None, Ok, Err, Option, Result, sym, refl, ap, ◌∙◌, subst, arith, length-append, length-take, ltb-false, le-ltb}
 use lib.ListN.{length-reverse}
 use Rattle.automata.specs.Steps.{Config, Room, Progressed, finished, running, no_room, Advanced, settle, step_on, step_with, one_step, within, unless_lacking, unless_finished, advance, Lacking}
 use Rattle.automata.specs.Steps.{steps as no_steps}
@@ -8,8 +8,8 @@ use Rattle.automata.specs.declared.nodes.CoreNode.{CoreNode}
 use Rattle.rules.specs.declared.node.Node.{Node}
 use Rattle.rules.specs.declared.node.Place.{Place}
 use Rattle.coreform.specs.Forms.{form_at}
-use Rattle.tableau.specs.Beginning.{cores, begun, short_for, begin_fault, first_item, Begins, refused as refused-begin, begun_at}
-use Rattle.tableau.specs.Stepping.{Lists, lists, Standing, standing_at, advanced_by, room_of, short_list, Answer, refusal, progress, Written, Steps, refused, stepped}
+use Rattle.tableau.specs.Beginning.{begun, Begins, refused as refused-begin, begun_at}
+use Rattle.tableau.specs.Stepping.{Lists, lists, Standing, standing_at, advanced_by, room_of, short_list, refusal, progress, Steps, refused, stepped}
 use Rattle.tableau.specs.declared.fault.ShortFault.{ShortFault}
 use Rattle.rules.specs.HandedBack.{told, HandsBack}
 use Rattle.rules.specs.Reading.{Reads, wrong_size, refused as refused-at}

@@ -1,5 +1,5 @@
 -- Edges in order: one step of the check, and what it says of two edges.
-use Rattle.std.proofs.Common.{◌≡◌, ℕ, zero, suc, ◌+◌, ◌^◌, ◌<◌, ◌≤◌, Bool, true, false, cond, ◌||◌, eqb, ltb, leb, ◌⊎◌, List, [], ◌∷◌, length, get_or, drop, is_ok, Some, None, Option, sym, refl, ◌∙◌, subst, ⊎_elim, arith}
+use Rattle.std.proofs.Common.{◌≡◌, ℕ, zero, suc, ◌+◌, ◌^◌, ◌<◌, ◌≤◌, Bool, true, false, cond, ◌||◌, eqb, ltb, leb, List, [], ◌∷◌, length, get_or, drop, is_ok, Some, None, Option, sym, refl, ◌∙◌, subst, ⊎_elim, arith}
 use Rattle.std.proofs.lemmas.List.{at_drop_more, get_or_past}
 use Rattle.std.proofs.lemmas.Bool.{cond-true, cond-false, ltb-false, or_parts, cases_lt, false≢true}
 use Rattle.models.specs.EdgeWords.{no_edge, Smalls, fault_from, edge_fault, order_check, edges_check}

@@ -1,5 +1,5 @@
 -- A recording with a word per change.
-use Rattle.std.specs.Prelude.{ℕ, ◌+◌, ◌^◌, ◌<◌, cond, ◌||◌, List, [], ◌∷◌, map, get_or, Some, None, Ok, Err, Option, ◌==◌, nat_le, nat_lt, slice_index_or}
+use Rattle.std.specs.Prelude.{ℕ, ◌+◌, ◌^◌, ◌<◌, cond, ◌||◌, List, [], ◌∷◌, map, Some, None, Ok, Err, Option, ◌==◌, nat_le, nat_lt, slice_index_or}
 use Rattle.std.specs.List.{range_with_len}
 use Rattle.std.specs.Result.{result_and}
 use Rattle.semantics.specs.Lassos.{Lasso}

@@ -1,9 +1,9 @@
 -- What an enter call keeps: books stay sound, and no node changes or leaves.
-use Rattle.std.proofs.Common.{◌≡◌, ℕ, ◌<◌, ◌≤◌, Bool, true, false, cond, ltb, List, [], ◌∷◌, ◌++◌, length, get_or, Some, None, Ok, Err, Option, Result, sym, refl, ap, ◌∙◌, subst, append-nil, arith}
+use Rattle.std.proofs.Common.{◌≡◌, ℕ, Bool, true, false, cond, ltb, List, [], ◌∷◌, ◌++◌, length, Some, None, Ok, Err, Option, Result, sym, refl, ◌∙◌, subst, append-nil, arith}
 use Rattle.std.proofs.lemmas.List.{length_push}
 use Rattle.std.proofs.lemmas.Bool.{ltb-true}
 use Rattle.rules.specs.Decoding.{Decoded, decoded}
-use Rattle.rules.specs.Entering.{Outcome, at, missing, settled, added, admitted, taken, entered, Enters}
+use Rattle.rules.specs.Entering.{Outcome, at, missing, settled, admitted, taken, entered, Enters}
 use Rattle.rules.specs.Nodes.{place_of}
 use Rattle.rules.specs.Tables.{fits_at, SoundBook, Grows}
 use Rattle.rules.specs.declared.fault.EnterFault.{EnterFault}

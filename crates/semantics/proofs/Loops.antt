@@ -1,5 +1,5 @@
 -- The scans of an endless sequence that goes back from its last scan to the loop start.
-use Rattle.std.proofs.Common.{◌≡◌, ℕ, zero, suc, ◌+◌, ◌-◌, ◌*◌, ◌/◌, ◌%◌, ◌<◌, ◌≤◌, ltb, ◌⊎◌, ◌↔◌, length, get_or, sym, refl, ap, ◌∙◌, subst, inl, inr, add-zero, mod-lt, mod-eq_of_lt, suc-mul, div-add-mod', arith}
+use Rattle.std.proofs.Common.{◌≡◌, ℕ, zero, suc, ◌+◌, ◌-◌, ◌*◌, ◌/◌, ◌%◌, ◌<◌, ◌≤◌, ◌⊎◌, ◌↔◌, length, get_or, sym, ap, ◌∙◌, subst, inl, inr, add-zero, mod-lt, mod-eq_of_lt, suc-mul, div-add-mod', arith}
 use native.Mathlib.Decide.{dec_lt}
 use native.Mathlib.Nat.{add-mod_right}
 use lib.Arith.{digits_mod}
@@ -7,7 +7,7 @@ use Rattle.std.proofs.lemmas.Bool.{lt-ltb, le-ltb, cond-true, cond-false}
 use Rattle.semantics.specs.Lassos.{Lasso, wrapped, scan_at, unrolled, following}
 use Rattle.semantics.specs.Meaning.{Holds}
 use Rattle.semantics.specs.Rules.{Rule}
-use Rattle.semantics.proofs.Shifts.{Agree, holds_shift}
+use Rattle.semantics.proofs.Shifts.{holds_shift}
 
 module _ (n s : ℕ) (inside : s < n) where
   pub wrapped_low : (i : ℕ) → i < n → wrapped n s i ≡ i

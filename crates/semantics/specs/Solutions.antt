@@ -1,5 +1,5 @@
 -- The solutions of "v at i is: hold at i, or pass at i and v at the next position".
-use Rattle.std.specs.Prelude.{◌≡◌, ℕ, ◌<◌, ◌≤◌, Bool, true, false, ◌⊎◌}
+use Rattle.std.specs.Prelude.{◌≡◌, ℕ, Bool, true, false}
 use Rattle.semantics.specs.Meaning.{UntilAt, WeakUntilAt}
 
 -- where a test is true

@@ -1,7 +1,7 @@
 -- Which refusal of a begin call stands.
-use Rattle.std.proofs.Common.{◌≡◌, ℕ, ◌<◌, ◌≤◌, Bool, true, false, cond, ltb, leb, List, [], ◌∷◌, length, drop, set, Some, None, Ok, Err, Option, Result, sym, refl, ap, ◌∙◌, subst, arith}
+use Rattle.std.proofs.Common.{◌≡◌, ℕ, ◌<◌, ◌≤◌, Bool, true, false, cond, ltb, leb, List, [], ◌∷◌, length, drop, set, Some, None, Ok, Err, Result, sym, refl, ap, ◌∙◌, arith}
 use Rattle.std.proofs.lemmas.Bool.{ltb-true, leb-true, lt-ltb, le-ltb, le-leb, lt-leb, cond-true, cond-false}
-use Rattle.automata.specs.Sheets.{Written, core_form, write}
+use Rattle.automata.specs.Sheets.{Written}
 use Rattle.automata.specs.declared.items.Item.{Item}
 use Rattle.automata.specs.declared.nodes.CoreNode.{CoreNode}
 use Rattle.automata.proofs.Again.{write_root}
@@ -11,7 +11,6 @@ use Rattle.coreform.specs.declared.form.FormFault.TheVariants.{NotInBook, TooMan
 use Rattle.rules.specs.declared.node.Node.{Node}
 use Rattle.rules.specs.declared.node.Place.{Place}
 use Rattle.tableau.specs.Beginning.{cores, untils, short_for, begin_fault}
-use Rattle.tableau.specs.declared.fault.BeginFault.{BeginFault}
 use Rattle.tableau.specs.declared.fault.BeginFault.TheVariants.{Form, TooManyUntils, Short}
 use Rattle.tableau.specs.declared.fault.LentList.TheVariants.{Sheet, Pending}
 

@@ -1,5 +1,5 @@
 -- What a call of begin answers, and what it writes on the lists that it is lent.
-use Rattle.std.specs.Prelude.{◌≡◌, ℕ, ◌^◌, cond, List, [], ◌∷◌, ◌++◌, length, drop, Some, None, Ok, Err, Option, Result, nat_le, nat_lt}
+use Rattle.std.specs.Prelude.{◌≡◌, ℕ, ◌^◌, cond, List, ◌∷◌, ◌++◌, length, drop, Some, None, Ok, Err, Option, Result, nat_le, nat_lt}
 use Rattle.automata.specs.Sets.{empty, set_of}
 use Rattle.automata.specs.Sheets.{Written}
 use Rattle.automata.specs.Steps.{item, untils_below}

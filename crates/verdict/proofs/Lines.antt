@@ -1,5 +1,5 @@
 -- The table worked on paper: listings are computed, and joined to the judgments.
-use Rattle.std.proofs.Common.{◌≡◌, ℕ, true, false, List, [], ◌∷◌, sym, refl, subst, arith}
+use Rattle.std.proofs.Common.{◌≡◌, ℕ, List, [], ◌∷◌, sym, refl, subst, arith}
 use lib.Count.{count_trailing_zeros}
 use Rattle.automata.specs.Sheets.{write}
 use Rattle.automata.specs.Sheets as sheets
@@ -14,7 +14,7 @@ use Rattle.rules.specs.declared.node.Node.TheVariants.{True, False, Signal, Unar
 use Rattle.rules.specs.declared.node.UnaryOp.TheVariants.{Not, Next, Eventually, Always}
 use Rattle.semantics.specs.Rules.{rule_within}
 use Rattle.tableau.specs.Beginning.{begun}
-use Rattle.tableau.specs.Stepping.{Standing, standing_at}
+use Rattle.tableau.specs.Stepping.{standing_at}
 use Rattle.verdict.specs.Worked.{Listing, listing, Numbered, Listed, WorkedTable, just_true, just_false, p0_until_p1, eventually_p0, always_p0, next_p0, p0_or_p0, p0_and_not_p0, not_p0_and_p0}
 use Rattle.verdict.proofs.Judgments.{two, read_until, read_eventually, until_holds, until_fails, weak_holds, once_holds, often_fails}
 use Rattle.verdict.proofs.Translated.{numbers_at}

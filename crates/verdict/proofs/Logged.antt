@@ -1,5 +1,5 @@
 -- The law over logs, sentence by sentence.
-use Rattle.std.proofs.Common.{◌≡◌, ℕ, ◌<◌, Bool, true, ◌↔◌, List, ◌++◌, length, sym, refl, ap, ◌∙◌, subst, ap₂, inl, inr, arith}
+use Rattle.std.proofs.Common.{◌≡◌, Bool, true, ◌↔◌, List, length, sym, ap, ◌∙◌, subst, inl, inr, arith}
 use Rattle.std.proofs.lemmas.List.{length-append}
 use Rattle.rules.specs.Tables.{SoundBook, Grows}
 use Rattle.rules.proofs.Kept.{sound_empty, enters_sound, enters_grows}

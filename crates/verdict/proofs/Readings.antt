@@ -1,7 +1,7 @@
 -- Reading is entering: it extends a log, and has one outcome.
-use Rattle.std.proofs.Common.{◌≡◌, ℕ, ◌+◌, ◌<◌, ◌≤◌, ◌⊎◌, ◌↔◌, List, length, drop, Ok, Err, Result, sym, refl, ap, ◌∙◌, subst, inl, inr, arith}
+use Rattle.std.proofs.Common.{◌≡◌, ℕ, ◌+◌, List, drop, Ok, Result, sym, refl, ap, ◌∙◌, subst, inl, inr, arith}
 use Rattle.rules.specs.Entering.{Enters, entered as enter}
-use Rattle.rules.specs.Reading.{Reading, rule, wrong_size, refused, ReadsFrom, stops, ends, goes_on, Reads, wrong, reads}
+use Rattle.rules.specs.Reading.{Reading, rule, refused, ReadsFrom, stops, ends, goes_on, Reads, wrong, reads}
 use Rattle.rules.specs.declared.fault.EnterFault.{EnterFault}
 use Rattle.rules.specs.declared.node.Node.{Node}
 use Rattle.rules.specs.declared.node.Place.{Place}

@@ -1,26 +1,22 @@
 -- What a translation is at each position of its log: the defined steps from the core form of its rule.
-use Rattle.std.proofs.Common.{◌≡◌, ℕ, ◌<◌, ◌≤◌, List, [], ◌∷◌, ◌++◌, reverse, length, take, drop, Ok, Err, Result, sym, refl, ap, ◌∙◌, subst, arith, length-append, length-take}
+use Rattle.std.proofs.Common.{◌≡◌, ℕ, ◌≤◌, List, [], ◌∷◌, ◌++◌, reverse, length, take, drop, Ok, Result, sym, refl, ap, ◌∙◌, subst, arith, length-append, length-take}
 use lib.ListN.{length-reverse}
 use Rattle.std.proofs.lemmas.List.{take_at, take-append-le, reverse-reverse}
 use Rattle.automata.specs.Sheets.{Written, core_form}
-use Rattle.automata.specs.Steps.{Config, Room, Progressed, finished, running, no_room, Advanced, advance, started, after, untils_below}
+use Rattle.automata.specs.Steps.{Config, Progressed, finished, running, no_room, advance, started, after, untils_below}
 use Rattle.automata.specs.declared.items.Item.{Item}
 use Rattle.automata.specs.declared.nodes.CoreNode.{CoreNode}
 use Rattle.automata.proofs.Reached.{by_steps, one_end, Ended, Went, went}
 use Rattle.coreform.specs.Forms.{form_at}
 use Rattle.rules.specs.declared.node.Node.{Node}
 use Rattle.rules.specs.declared.node.Place.{Place}
-use Rattle.semantics.specs.Rules.{rule_at, SameRule}
-use Rattle.semantics.proofs.Places.{same_tree}
+use Rattle.semantics.specs.Rules.{rule_at}
 use Rattle.tableau.specs.Beginning.{cores, untils, begun, first_item, Begins}
 use Rattle.tableau.specs.Beginning as beginning
 use Rattle.tableau.specs.Stepping.{Standing, Lists, lists, config, standing_at, room_of, advanced_by, Answer, refusal, progress, Steps}
 use Rattle.tableau.specs.Stepping as stepping
-use Rattle.tableau.specs.declared.fault.BeginFault.{BeginFault}
-use Rattle.tableau.specs.declared.fault.ShortFault.{ShortFault}
 use Rattle.verdict.specs.Logs.{Phase, going, done, phase_at, Longer, TranslationLog}
 use Rattle.verdict.specs.Logs as logs
-use Rattle.verdict.proofs.Logged.{log_sound}
 use Rattle.verdict.proofs.Outcomes.{ok≢err}
 
 -- ---- lists

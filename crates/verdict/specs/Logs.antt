@@ -14,7 +14,7 @@ use Rattle.rules.specs.declared.node.Node.{Node}
 use Rattle.rules.specs.declared.node.Place.{Place}
 use Rattle.semantics.specs.Lassos.{Lasso}
 use Rattle.tableau.specs.Beginning.{Begins}
-use Rattle.tableau.specs.Stepping.{Standing, Lists, lists, Answer, refusal, progress, Steps}
+use Rattle.tableau.specs.Stepping.{Standing, Lists, lists, refusal, progress, Steps}
 use Rattle.tableau.specs.declared.fault.BeginFault.{BeginFault}
 use Rattle.tableau.specs.declared.fault.ShortFault.{ShortFault}
 

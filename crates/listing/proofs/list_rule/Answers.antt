@@ -1,4 +1,4 @@
-use Rattle.std.proofs.Common.{◌≡◌, [], Err, refl, ap, ◌∙◌, subst}
+use Rattle.std.proofs.Common.{Err, refl, ap, ◌∙◌, subst}
 use Rattle.std.proofs.lemmas.Result.{err_from_is_err_and}
 use Rattle.rules.specs.Books.{entries}
 use Rattle.rules.specs.Reading.{Reads, rule}

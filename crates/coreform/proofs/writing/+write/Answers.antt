@@ -1,11 +1,10 @@
-use Rattle.std.proofs.Common.{◌≡◌, ℕ, zero, suc, ◌+◌, ◌<◌, ◌≤◌, true, false, List, [], ◌∷◌, ◌++◌, length, get_or, take, set, Some, sym, refl, ap, ◌∙◌, subst, arith}
+use Rattle.std.proofs.Common.{◌≡◌, ℕ, zero, suc, ◌+◌, ◌<◌, true, false, [], ◌∷◌, ◌++◌, length, get_or, take, set, sym, refl, ap, ◌∙◌, subst, arith}
 use Rattle.std.proofs.lemmas.List.{get_or-take, take_more, length-set, length-take-le}
 use Rattle.automata.specs.Cores.{core_of}
 use Rattle.automata.specs.Sheets.{put}
-use Rattle.automata.specs.declared.nodes.CoreNode.{CoreNode}
 use Rattle.automata.proofs.Again.{put_begins}
 use Rattle.coreform.specs.Drafts.{Drafted}
-use Rattle.coreform.specs.Recipes.{recipe_of, node_over, stepped}
+use Rattle.coreform.specs.Recipes.{recipe_of, node_over}
 use Rattle.coreform.specs.Writing.{Known}
 use Rattle.coreform.specs.declared.draft.Draft.{Draft}
 use Rattle.coreform.specs.declared.numbers.Numbers.{Numbers}
@@ -16,9 +15,8 @@ use Rattle.coreform.proofs.Memory.{writes_again, cook_ends, stands_written, know
 use Rattle.coreform.proofs.Right.{writes_lower}
 use Rattle.rules.specs.Books.{entries}
 use Rattle.rules.specs.Tables.{fits_at}
-use Rattle.rules.specs.declared.node.Node.TheVariants.{True}
 use Rattle.rules.proofs.Laws.{book_few, book_ordered, node_there, none_there}
-use Rattle.semantics.specs.Rules.{built, rule_at}
+use Rattle.semantics.specs.Rules.{rule_at}
 use Rattle.semantics.proofs.Places.{rule_opens}
 use Rattle.coreform.proofs.writing.+write.Goals as goal
 use Rattle.coreform.proofs.writing.+write.Goals.{in-Write, in_default-step}

@@ -1,4 +1,4 @@
-use Rattle.std.proofs.Common.{◌≡◌, ℕ, ◌+◌, ◌*◌, ◌<◌, true, length, drop, Decides, sym, refl, ap, ◌∙◌, subst, arith}
+use Rattle.std.proofs.Common.{◌≡◌, ℕ, ◌+◌, ◌*◌, ◌<◌, true, length, drop, Decides, sym, refl, ◌∙◌, subst, arith}
 use Rattle.rules.specs.Books.{entries}
 use Rattle.rules.specs.Tables.{fits_at}
 use Rattle.rules.proofs.Laws.{book_few, book_ordered, node_there, none_there}

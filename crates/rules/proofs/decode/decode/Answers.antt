@@ -1,7 +1,6 @@
-use Rattle.std.proofs.Common.{◌≡◌, ◌<◌, ◌≤◌, length, get_or, Some, sym, ap, ◌∙◌, arith, rules}
-use Rattle.std.proofs.lemmas.List.{places}
+use Rattle.std.proofs.Common.{◌≡◌, get_or, Some, sym, ap, ◌∙◌, rules}
 use Rattle.rules.specs.Commands.{command_of, length_for}
-use Rattle.rules.specs.Decoding.{operands, decoded, signal}
+use Rattle.rules.specs.Decoding.{signal}
 use Rattle.rules.specs.declared.command.Command.TheVariants as command
 use Rattle.rules.proofs.Words.{past, at_past, at_command, signal_words, unary_words, binary_words, signal_fits, signal_above}
 use Rattle.rules.proofs.decode.decode.Goals as goal

@@ -1,12 +1,10 @@
-use Rattle.std.proofs.Common.{◌≡◌, ◌<◌, ◌≤◌, eqb, ◌∷◌, ◌++◌, length, drop, Ok, Err, sym, refl, ap, ◌∙◌, subst, arith}
+use Rattle.std.proofs.Common.{◌≡◌, ◌<◌, ◌∷◌, ◌++◌, length, drop, Ok, Err, sym, refl, ap, ◌∙◌, arith}
 use Rattle.std.proofs.lemmas.Result.{err_from_is_err_and}
 use Rattle.std.proofs.lemmas.Bool.{eqb-true, eqb-false}
-use Rattle.automata.specs.Sheets.{Written}
 use Rattle.automata.specs.Steps.{untils_below}
 use Rattle.coreform.specs.Forms.{form_at}
 use Rattle.rules.specs.Books.{entries}
-use Rattle.tableau.specs.Beginning.{cores, untils, begun, first_item, begins, refused, begun_at}
-use Rattle.tableau.specs.Stepping.{Standing}
+use Rattle.tableau.specs.Beginning.{untils, first_item, begins, refused, begun_at}
 use Rattle.tableau.specs.declared.fault.BeginFault.TheVariants.{Form, TooManyUntils, Short}
 use Rattle.tableau.specs.declared.fault.LentList.TheVariants.{Sheet}
 use Rattle.tableau.proofs.Begun.{has_form, fault_form, fault_untils, fault_sheet, fault_pending, fault_none, root_inside, set_first}

@@ -1,4 +1,4 @@
-use Rattle.std.proofs.Common.{◌≡◌, ◌+◌, ◌^◌, ◌<◌, refl, arith, rules}
+use Rattle.std.proofs.Common.{◌+◌, ◌^◌, ◌<◌, refl, arith, rules}
 use Rattle.tableau.proofs.Gathered.{untils_more, until_one, untils_few}
 use Rattle.tableau.proofs.gathers.count_untils.Goals as goal
 

@@ -1,4 +1,4 @@
-use Rattle.std.proofs.Common.{◌≡◌, ℕ, zero, suc, Bool, true, false, get_or, replicate, None, Option, refl}
+use Rattle.std.proofs.Common.{◌≡◌, ℕ, zero, suc, true, false, get_or, replicate, None, Option, refl}
 use Rattle.coreform.proofs.numbers.Numbers.new.Goals as goal
 
 nothing : (n k : ℕ) → get_or {A = Option ℕ} (replicate n None) k None ≡ None
