@@ -1,11 +1,17 @@
 // Runs cases from standard input, one to a line, and the border cases of the calls.
 #![tactic(auto)]
 
+use std::process::ExitCode;
+
 mod borders;
 mod cases;
 mod runs;
 
-fn main(rt: HostRuntime) -> anyhow::Result<()> {
+fn main(rt: HostRuntime) -> anyhow::Result<ExitCode> {
     borders::tell_borders(&rt)?;
-    runs::run_cases(&rt)
+    if runs::run_cases(&rt)? {
+        Ok(ExitCode::SUCCESS)
+    } else {
+        Ok(ExitCode::FAILURE)
+    }
 }

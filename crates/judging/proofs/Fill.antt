@@ -1,6 +1,6 @@
 -- Filling one column of the work list from the last scan back.
 use Rattle.std.proofs.Common.{◌≡◌, ℕ, suc, ◌-◌, ◌*◌, ◌<◌, ◌≤◌, Bool, true, false, not, ◌&&◌, ◌||◌, ltb, ◌≢◌, List, length, drop, Decides, sym, refl, ap, ◌∙◌, subst, arith}
-use mathlib.Core.Bool.{beq}
+use Rattle.std.specs.Bool.{beq}
 use native.Mathlib.Decide.{ℕ_discrete}
 use Rattle.std.proofs.lemmas.List.{drop-set-lt, length-set}
 use Rattle.std.proofs.lemmas.Bool.{false≢true, ltb-true, and_parts, cond_both}

@@ -1,7 +1,7 @@
 // Judges a rule file on recordings of a line, and says in plain lines what comes of it.
 #![tactic(auto)]
 
-use anyhow::anyhow;
+use std::process::ExitCode;
 
 mod fault;
 mod judged;
@@ -9,10 +9,10 @@ mod task;
 mod telling;
 mod text;
 
-fn main(rt: HostRuntime) -> anyhow::Result<()> {
+fn main(rt: HostRuntime) -> anyhow::Result<ExitCode> {
     if task::run(&rt)? {
-        Ok(())
+        Ok(ExitCode::SUCCESS)
     } else {
-        Err(anyhow!("there is a recording without a verdict"))
+        Ok(ExitCode::FAILURE)
     }
 }

@@ -1,6 +1,6 @@
 -- A call of step that answers running has made all its steps, and the lists are long enough for the next.
 use Rattle.std.proofs.Common.{◌≡◌, ℕ, zero, suc, ◌+◌, ◌<◌, ◌≤◌, Bool, true, false, cond, eqb, ltb, List, [], ◌∷◌, ◌++◌, reverse, length, take, Some, None, Ok, Err, Option, Result, sym, refl, ap, ◌∙◌, subst, arith, length-append, length-take, ltb-false, le-ltb}
-use lib.ListN.{length-reverse}
+use Rattle.std.proofs.lemmas.List.{length-reverse}
 use Rattle.automata.specs.Steps.{Config, Room, Progressed, finished, running, no_room, Advanced, settle, step_on, step_with, one_step, within, unless_lacking, unless_finished, advance, Lacking}
 use Rattle.automata.specs.Steps.{steps as no_steps}
 use Rattle.automata.specs.declared.items.Item.{Item}
@@ -8,11 +8,11 @@ use Rattle.automata.specs.declared.nodes.CoreNode.{CoreNode}
 use Rattle.rules.specs.declared.node.Node.{Node}
 use Rattle.rules.specs.declared.node.Place.{Place}
 use Rattle.coreform.specs.Forms.{form_at}
-use Rattle.tableau.specs.Beginning.{begun, Begins, refused as refused-begin, begun_at}
+use Rattle.tableau.specs.Beginning.{begun, Begins, refused as refused_begin, begun_at}
 use Rattle.tableau.specs.Stepping.{Lists, lists, Standing, standing_at, advanced_by, room_of, short_list, refusal, progress, Steps, refused, stepped}
 use Rattle.tableau.specs.declared.fault.ShortFault.{ShortFault}
 use Rattle.rules.specs.HandedBack.{told, HandsBack}
-use Rattle.rules.specs.Reading.{Reads, wrong_size, refused as refused-at}
+use Rattle.rules.specs.Reading.{Reads, wrong_size, refused as refused_at}
 use Rattle.rules.specs.declared.reading.ReadFault.{ReadFault}
 use Rattle.rules.specs.declared.reading.ReadFault.TheVariants.{FileSize, Command as AtCommand}
 use Rattle.listing.specs.Listing.{Listing, unread}
@@ -147,7 +147,7 @@ ok_same e = cc
 -- a translation that has begun has lists that are long enough
 pub begun_long : (book : List Node) (place : Place) (before : Lists) (s : Standing) (sheet : List CoreNode) (pending : List Item)
     → Begins book place before.sheet before.pending (Ok s) sheet pending → short_list s (lists sheet before.states before.arcs pending) ≡ None
-begun_long book place before s sheet pending (refused-begin {fault} e f g h) = absurd (ok≢err s fault f)
+begun_long book place before s sheet pending (refused_begin {fault} e f g h) = absurd (ok≢err s fault f)
 begun_long book place before s sheet pending (begun_at e f g h) =
     let after = lists sheet before.states before.arcs pending in
     let w = form_at book place in
@@ -166,4 +166,4 @@ pub unread_as : (file : List ℕ) (before : Lists) (fault : ReadFault) (empty bo
 unread_as file before (FileSize rest) empty book e r h answer is =
     unread {fault = Size (length rest.now)} (subst (λ b. Reads b file wrong_size book) e r) (ap length h) is refl
 unread_as file before (AtCommand c) empty book e r h answer is =
-    unread {fault = Command c.start c.fault} (subst (λ b. Reads b file (refused-at c.fault c.start) book) e r) tt is refl
+    unread {fault = Command c.start c.fault} (subst (λ b. Reads b file (refused_at c.fault c.start) book) e r) tt is refl

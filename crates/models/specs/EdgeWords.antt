@@ -7,7 +7,7 @@ use Rattle.models.specs.Scans.{Checked, scans_check, or_quiet}
 use Rattle.models.specs.declared.edges.Edge.{Edge}
 use Rattle.models.specs.declared.fault.RecordingFault.TheVariants.{EdgeOrder}
 
--- what get_or gives past the last edge
+-- what slice_index_or gives past the last edge
 abbrev pub no_edge : Edge
 no_edge = record { scan = 0; word = 0 }
 

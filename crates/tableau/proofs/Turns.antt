@@ -3,7 +3,7 @@ use Rattle.std.proofs.Common.{◌≡◌, ℕ, ◌+◌, ◌-◌, ◌<◌, ◌≤�
 use Rattle.std.proofs.lemmas.List.{length-take-le, length-reverse}
 use Rattle.std.proofs.lemmas.Bool.{ltb-false}
 use Rattle.automata.specs.Steps.{Config, Progressed, running, no_room, within, one_step}
-use Rattle.automata.specs.Steps.{steps as no_steps, states as no-states, arcs as no-arcs, pending as no-pending}
+use Rattle.automata.specs.Steps.{steps as no_steps, states as no_states, arcs as no_arcs, pending as no_pending}
 use Rattle.automata.specs.declared.items.Arc.{Arc}
 use Rattle.automata.specs.declared.items.Item.{Item}
 use Rattle.automata.specs.declared.items.State.{State}
@@ -25,7 +25,7 @@ verdict None = running
 verdict (Some l) = no_room (lacking_of l)
 
 first_lack : (a b c d : Bool)
-    → cond a (no_room no_steps) (cond b (no_room no-states) (cond c (no_room no-arcs) (cond d (no_room no-pending) running)))
+    → cond a (no_room no_steps) (cond b (no_room no_states) (cond c (no_room no_arcs) (cond d (no_room no_pending) running)))
     ≡ verdict (cond a (Some Steps) (cond b (Some States) (cond c (Some Arcs) (cond d (Some Pending) None))))
 unfolding verdict
 first_lack true b c d = refl
@@ -96,9 +96,9 @@ module _ (sheet : List CoreNode) (s : Space) (c : Counts) (ss : List State) (xs 
   room_is o e =
       ap (λ k. within (room_in s) k running) step_is
       ∙ (λ j. cond (ltb 4294967295 (c.steps + 1)) (no_room no_steps)
-      (cond (ltb s.states (states_count j)) (no_room no-states)
-      (cond (ltb s.arcs (arcs_count j)) (no_room no-arcs)
-      (cond (ltb s.pending (items_count j)) (no_room no-pending) running))))
+      (cond (ltb s.states (states_count j)) (no_room no_states)
+      (cond (ltb s.arcs (arcs_count j)) (no_room no_arcs)
+      (cond (ltb s.pending (items_count j)) (no_room no_pending) running))))
       ∙ first_lack (ltb 4294967295 (c.steps + 1)) (ltb s.states (c.states + length (new_states p))) (ltb s.arcs (c.arcs + length (new_arcs p))) (ltb s.pending (c.pending - 1 + length (new_items p)))
       ∙ ap verdict (sym e)
 

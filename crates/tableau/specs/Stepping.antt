@@ -1,7 +1,7 @@
 -- What a call of step answers, and what it makes of the lists that it is lent.
 use Rattle.std.specs.Prelude.{◌≡◌, ℕ, min, cond, List, ◌++◌, reverse, length, take, drop, Some, None, Ok, Err, Option, Result, nat_lt}
 use Rattle.automata.specs.Steps.{Config, Room, Lacking, Progressed, finished, running, no_room, Advanced, advance}
-use Rattle.automata.specs.Steps.{steps as no_steps, states as no-states, arcs as no-arcs, pending as no-pending}
+use Rattle.automata.specs.Steps.{steps as no_steps, states as no_states, arcs as no_arcs, pending as no_pending}
 use Rattle.automata.specs.declared.items.Arc.{Arc}
 use Rattle.automata.specs.declared.items.Item.{Item}
 use Rattle.automata.specs.declared.items.State.{State}
@@ -84,9 +84,9 @@ pub data Answer : Type 0 where
 
 abbrev pub lacking_of : Lack → Lacking
 lacking_of LackSteps = no_steps
-lacking_of LackStates = no-states
-lacking_of LackArcs = no-arcs
-lacking_of LackPending = no-pending
+lacking_of LackStates = no_states
+lacking_of LackArcs = no_arcs
+lacking_of LackPending = no_pending
 
 abbrev pub progress_told : Progress → Answer
 progress_told (Finished t) = progress finished (ended t)

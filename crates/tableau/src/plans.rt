@@ -1,7 +1,7 @@
 // What one step adds, found out before anything is written.
 ghost use Rattle.std.specs.Prelude.{◌≡◌, ◌<◌, ◌≤◌, length};
-ghost use Rattle.automata.specs.Sets.{lowest as lowestOf};
-ghost use Rattle.automata.specs.Steps.{drops as isDropped, item as item_of};
+ghost use Rattle.automata.specs.Sets.{lowest as lowest_of};
+ghost use Rattle.automata.specs.Steps.{drops as is_dropped, item as item_of};
 ghost use Rattle.tableau.specs.Nodes.{Sound};
 ghost use Rattle.tableau.specs.Plans.{split_plan, taken_plan, join_plan, settle_plan, planned};
 
@@ -26,7 +26,7 @@ pub(crate) enum Plan {
 // Whether an item is dropped at this node: it is false, or a literal whose opposite is in Old.
 fn drops(sheet: &[CoreNode], old: CoreSet, node: CoreNode) -> bool
     requires { (length sheet.now ≤ 64) × (Sound node) }
-    ensures { result ≡ isDropped sheet.now old node }
+    ensures { result ≡ is_dropped sheet.now old node }
 {
     match node {
         CoreNode::False => true,
@@ -89,7 +89,7 @@ fn split(node: CoreNode, k: u8, item: Item) -> Plan
 // The lowest number leaves New.
 fn plan_taken(sheet: &[CoreNode], item: Item) -> Plan
     requires { (length sheet.now ≤ 64) × (0 < item.new.bits) }
-    ensures { result ≡ taken_plan sheet.now (lowestOf item.new) item }
+    ensures { result ≡ taken_plan sheet.now (lowest_of item.new) item }
 {
     let k = lowest(item.new);
     let node = node_at(sheet, k);

@@ -1,6 +1,6 @@
 // Sets of core numbers.
 ghost use Rattle.std.specs.Prelude.{◌≡◌, ◌<◌};
-ghost use Rattle.automata.specs.Sets.{has, insert as inserted, remove as removed, lowest as lowestOf, join as joined};
+ghost use Rattle.automata.specs.Sets.{has, insert as inserted, remove as removed, lowest as lowest_of, join as joined};
 
 use automata::nodes::CoreSet;
 
@@ -33,7 +33,7 @@ pub(crate) fn remove(members: CoreSet, k: u8) -> CoreSet
 // The lowest member of a set that is not empty.
 pub(crate) fn lowest(members: CoreSet) -> u8
     requires { 0 < members.bits }
-    ensures lowest { result ≡ lowestOf members }
+    ensures lowest { result ≡ lowest_of members }
     ensures small { result < 64 }
 {
     members.bits.trailing_zeros() as u8

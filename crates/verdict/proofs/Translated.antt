@@ -1,6 +1,6 @@
 -- What a translation is at each position of its log: the defined steps from the core form of its rule.
 use Rattle.std.proofs.Common.{◌≡◌, ℕ, ◌≤◌, List, [], ◌∷◌, ◌++◌, reverse, length, take, drop, Ok, Result, sym, refl, ap, ◌∙◌, subst, arith, length-append, length-take}
-use lib.ListN.{length-reverse}
+use Rattle.std.proofs.lemmas.List.{length-reverse}
 use Rattle.std.proofs.lemmas.List.{take_at, take-append-le, reverse-reverse}
 use Rattle.automata.specs.Sheets.{Written, core_form}
 use Rattle.automata.specs.Steps.{Config, Progressed, finished, running, no_room, advance, started, after, untils_below}
