@@ -2,7 +2,6 @@
 use Rattle.std.proofs.Common.{◌≡◌, ℕ, zero, suc, ◌<◌, ◌≤◌, Bool, true, false, cond, ◌&&◌, eqb, List, [], ◌∷◌, ◌++◌, length, Decides, sym, refl, ap, ◌∙◌, subst, append_assoc, append-nil, arith, length-append}
 use native.Mathlib.Decide.{dec_lt}
 use Rattle.std.proofs.lemmas.Bool.{eqb-true, eq-eqb, and_parts, and_from, lt-ltb, le-ltb}
-use Rattle.std.proofs.lemmas.Bool.Decides.{same_from_decides}
 use Rattle.automata.specs.Cores.{Core, ctrue, cfalse, con, coff, cnext, cand, cor, cuntil, crelease}
 use Rattle.automata.specs.Sheets.{parts, same, number_on, Written, put, put1, put2, write}
 use Rattle.automata.specs.declared.nodes.CoreNode.{CoreNode}
@@ -46,10 +45,6 @@ same_decides x y = (
       and_from (eqb (parts x).0 (parts y).0) (eqb (parts x).1 (parts y).1 && eqb (parts x).2 (parts y).2) (eq-eqb (parts x).0 (parts y).0 (ap (λ z. (parts z).0) e))
       (and_from (eqb (parts x).1 (parts y).1) (eqb (parts x).2 (parts y).2) (eq-eqb (parts x).1 (parts y).1 (ap (λ z. (parts z).1) e)) (eq-eqb (parts x).2 (parts y).2 (ap (λ z. (parts z).2) e))),
 )
-
--- what says whether two nodes are equal says what `same` says
-pub eq_is_same : (x y : CoreNode) (r : Bool) → Decides r (x ≡ y) → r ≡ same x y
-eq_is_same x y r h = same_from_decides r (same x y) h (same_decides x y)
 
 same_self : (x : CoreNode) → same x x ≡ true
 same_self x = (same_decides x x).1 refl

@@ -23,6 +23,7 @@ impl PartialEq for CoreNode {
 
     ghost laws = { same_laws };
 
+    #[tactic(auto, unfolding(crate::specs::Sheets::same))]
     fn eq(&self, other: &CoreNode) -> bool
         ensures computed { result ≡ same self.now other.now }
         ensures equal { Decides result (self.now ≡ other.now) }

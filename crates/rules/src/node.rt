@@ -43,6 +43,7 @@ impl PartialEq for Node {
 
     ghost laws = { same_laws };
 
+    #[tactic(auto, unfolding(crate::specs::Nodes::same))]
     fn eq(&self, other: &Node) -> bool
         ensures computed { result ≡ same self.now other.now }
         ensures equal { Decides result (self.now ≡ other.now) }
