@@ -7,6 +7,7 @@ use Rattle.rules.specs.declared.node.UnaryOp.TheVariants.{Not, Next, Eventually,
 use Rattle.semantics.specs.Meaning.{bit, UntilAt}
 use Rattle.semantics.specs.Rules.{Rule, Top, Bottom, Atom, One, Two}
 
+-- a core form: true, false, a literal of a signal, next, and, or, until, release
 pub data Core : Type 0 where
   ctrue cfalse : Core
   -- the two literals of a signal
@@ -25,6 +26,7 @@ unary_core Eventually false a = crelease cfalse (a false)
 unary_core Always true a = crelease cfalse (a true)
 unary_core Always false a = cuntil ctrue (a false)
 
+-- the same for an operator of two operands
 abbrev pub binary_core : BinaryOp → Bool → (Bool → Core) → (Bool → Core) → Core
 binary_core And true a b = cand (a true) (b true)
 binary_core And false a b = cor (a false) (b false)

@@ -4,15 +4,19 @@ use Rattle.std.specs.Int.Count.{count_trailing_zeros}
 use Rattle.automata.specs.declared.nodes.CoreSet.{CoreSet}
 use Rattle.semantics.specs.Meaning.{bit}
 
+-- the set whose members are the bits that are on in m
 abbrev pub set_of : ℕ → CoreSet
 set_of m = record { bits = m }
 
+-- the set without members
 abbrev pub empty : CoreSet
 empty = set_of 0
 
+-- number k is a member
 abbrev pub has : CoreSet → ℕ → Bool
 has m k = bit m.bits k == 1
 
+-- number k joins
 abbrev pub insert : CoreSet → ℕ → CoreSet
 insert m k = set_of (bit_or m.bits (2 ^ k))
 
@@ -20,6 +24,7 @@ insert m k = set_of (bit_or m.bits (2 ^ k))
 abbrev pub remove : CoreSet → ℕ → CoreSet
 remove m k = set_of (bit_xor m.bits (2 ^ k))
 
+-- the lowest member, 64 where there is none
 abbrev pub lowest : CoreSet → ℕ
 lowest m = count_trailing_zeros 64 m.bits
 

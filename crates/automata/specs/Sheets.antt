@@ -45,12 +45,15 @@ pub record Written : Type 0 where
 abbrev pub put : CoreNode → List CoreNode → Written
 put n xs = record { sheet = cond (nat_lt (number_on n xs) (length xs)) xs (xs ++ n ∷ []); root = number_on n xs }
 
+-- a node over one operand, which is on the sheet already
 abbrev pub put1 : (ℕ → CoreNode) → Written → Written
 put1 node a = put (node a.root) a.sheet
 
+-- a node over two operands: i is the number of the left one, and the right one was written last
 abbrev pub put2 : (ℕ → ℕ → CoreNode) → ℕ → Written → Written
 put2 node i b = put (node i b.root) b.sheet
 
+-- the nodes of a core form join the sheet, and the root is the number of the whole
 unfoldable pub write : Core → List CoreNode → Written
 write ctrue xs = put True xs
 write cfalse xs = put False xs

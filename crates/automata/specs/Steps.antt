@@ -20,10 +20,12 @@ checked n (Or a b) = cond (nat_lt a n && nat_lt b n) (Or a b) False
 checked n (Until a b) = cond (nat_lt a n && nat_lt b n) (Until a b) False
 checked n (Release a b) = cond (nat_lt a n && nat_lt b n) (Release a b) False
 
+-- what stands on the sheet under number k, as it counts
 abbrev pub node_on : List CoreNode → ℕ → CoreNode
 node_on sheet k = checked (length sheet) (slice_index_or sheet k False)
 
 -- ---- what a state keeps
+-- the signal of an on literal, as a bit of a word; no bit of any other node
 abbrev pub on_bit : CoreNode → ℕ
 on_bit True = 0
 on_bit False = 0
@@ -35,6 +37,7 @@ on_bit (Or a b) = 0
 on_bit (Until a b) = 0
 on_bit (Release a b) = 0
 
+-- the signal of an off literal, as a bit of a word; no bit of any other node
 abbrev pub off_bit : CoreNode → ℕ
 off_bit True = 0
 off_bit False = 0
@@ -51,12 +54,15 @@ abbrev pub signals : (CoreNode → ℕ) → List CoreNode → CoreSet → ℕ �
 signals literal sheet old zero = 0
 signals literal sheet old (suc n) = bit_or (signals literal sheet old n) (cond (has old n) (literal (node_on sheet n)) 0)
 
+-- the signals whose on literal is in Old
 abbrev pub on_signals : List CoreNode → CoreSet → ℕ
 on_signals sheet old = signals on_bit sheet old (length sheet)
 
+-- the signals whose off literal is in Old
 abbrev pub off_signals : List CoreNode → CoreSet → ℕ
 off_signals sheet old = signals off_bit sheet old (length sheet)
 
+-- 1 for an until, 0 for any other node
 abbrev pub is_until : CoreNode → ℕ
 is_until True = 0
 is_until False = 0
@@ -85,10 +91,12 @@ mark_of (Or a b) k old j = 0
 mark_of (Until a b) k old j = cond (has old k) (cond (has old b) (2 ^ j) 0) (2 ^ j)
 mark_of (Release a b) k old j = 0
 
+-- the marks of a state with this Old, for the untils below number n
 abbrev pub marks_below : List CoreNode → CoreSet → ℕ → ℕ
 marks_below sheet old zero = 0
 marks_below sheet old (suc n) = bit_or (marks_below sheet old n) (mark_of (node_on sheet n) n old (untils_below sheet n))
 
+-- the state with this Old and Next: what else it keeps follows from Old and the sheet
 abbrev pub state_of : List CoreNode → CoreSet → CoreSet → State
 state_of sheet old next = record {
   old = old;
@@ -118,6 +126,7 @@ drops sheet old (Or a b) = false
 drops sheet old (Until a b) = false
 drops sheet old (Release a b) = false
 
+-- an item with this source, New, Old and Next
 abbrev pub item : ℕ → CoreSet → CoreSet → CoreSet → Item
 item source new old next = record { source = source; new = new; old = old; next = next }
 
@@ -137,6 +146,7 @@ split (Release a b) k f n o x = item f (join b o n) o (insert x k) ∷ item f (j
 abbrev pub choice : CoreSet → ℕ
 choice new = lowest new
 
+-- the items that go back in when core number k leaves New of item i: none where the node drops it
 abbrev pub taken : List CoreNode → ℕ → Item → List Item
 taken sheet k i =
     cond (drops sheet i.old (node_on sheet k)) []
@@ -147,10 +157,12 @@ abbrev pub states_before : CoreSet → CoreSet → List State → ℕ
 states_before old next [] = 0
 states_before old next (s ∷ ss) = cond (s.old.bits == old.bits && s.next.bits == next.bits) 0 (suc (states_before old next ss))
 
+-- an arc with the same two ends is in the list
 abbrev pub arc_among : Arc → List Arc → Bool
 arc_among a [] = false
 arc_among a (b ∷ bs) = cond (b.from == a.from && b.to == a.to) true (arc_among a bs)
 
+-- an arc between two states, by their numbers; 0 is the start
 abbrev pub arc : ℕ → ℕ → Arc
 arc from to = record { from = from; to = to }
 
@@ -173,6 +185,7 @@ settle false sheet i rest c = record {
   pending = item (length c.states + 1) i.next empty empty ∷ rest;
 }
 
+-- one step with the item that was taken out (true where its New is empty) and the rest of the pending ones
 abbrev pub step_on : List CoreNode → Bool → Item → List Item → Config → Config
 step_on sheet true i rest c = settle (nat_lt (states_before i.old i.next c.states) (length c.states)) sheet i rest c
 step_on sheet false i rest c = record {
@@ -182,13 +195,16 @@ step_on sheet false i rest c = record {
   pending = taken sheet (choice i.new) i ++ rest;
 }
 
+-- one step with these items pending; with none, all stays as it is
 abbrev pub step_with : List CoreNode → List Item → Config → Config
 step_with sheet [] c = c
 step_with sheet (i ∷ rest) c = step_on sheet (i.new.bits == 0) i rest c
 
+-- one step: the item put in last is taken out
 abbrev pub one_step : List CoreNode → Config → Config
 one_step sheet c = step_with sheet c.pending c
 
+-- before the first step: one item, from the start, with the root in New
 abbrev pub started : ℕ → Config
 started root = record { steps = 0; states = []; arcs = []; pending = item 0 (set_of (2 ^ root)) empty empty ∷ [] }
 
@@ -204,9 +220,11 @@ pub record Room : Type 0 where
   pub arcs : ℕ
   pub pending : ℕ
 
+-- what there may be no room for
 pub data Lacking : Type 0 where
   steps states arcs pending : Lacking
 
+-- how a call of step answers where it is not refused
 pub data Progressed : Type 0 where
   finished running : Progressed
   no_room : Lacking → Progressed
@@ -219,19 +237,23 @@ within room c answer =
     (cond (nat_lt room.arcs (length c.arcs)) (no_room arcs)
     (cond (nat_lt room.pending (length c.pending)) (no_room pending) answer)))
 
+-- what had been made when the steps ended, and the answer
 pub record Advanced : Type 0 where
   pub config : Config
   pub answer : Progressed
 
+-- where there is no room for the step, what was made before it stands; else more
 abbrev pub unless_lacking : Progressed → Config → Advanced → Advanced
 unless_lacking finished c more = more
 unless_lacking running c more = more
 unless_lacking (no_room l) c more = record { config = c; answer = no_room l }
 
+-- where nothing is pending, it is finished; else more
 abbrev pub unless_finished : List Item → Config → Advanced → Advanced
 unless_finished [] c more = record { config = c; answer = finished }
 unless_finished (i ∷ rest) c more = more
 
+-- at most so many steps: before each it looks whether it is finished, then at the allowance, then at the room
 unfoldable pub advance : List CoreNode → Room → ℕ → Config → Advanced
 advance sheet room zero c = unless_finished c.pending c (record { config = c; answer = running })
 advance sheet room (suc n) c =

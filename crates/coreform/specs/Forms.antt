@@ -9,10 +9,12 @@ use Rattle.rules.specs.declared.node.Node.{Node}
 use Rattle.rules.specs.declared.node.Place.{Place}
 use Rattle.semantics.specs.Rules.{rule_at}
 
+-- the number of the refusal
 abbrev pub form_number : FormFault → ℕ
 form_number (NotInBook place) = 9
 form_number TooManyNodes = 7
 
+-- the nodes in use, which are the sheet
 abbrev pub nodes_of : CoreForm → List CoreNode
 nodes_of f = take f.count f.nodes
 
@@ -21,10 +23,11 @@ abbrev pub shown : Result CoreForm FormFault → Result Written FormFault
 shown (Ok f) = Ok (record { sheet = nodes_of f; root = f.root })
 shown (Err fault) = Err fault
 
--- the core form of the rule at the place, if it has at most 64 nodes
+-- the core form of the rule at the place, however large
 abbrev pub form_at : List Node → Place → Written
 form_at book place = core_form (rule_at book place.index)
 
+-- the core form, or its refusal: first of a place that is not in the book, then of more than 64 nodes
 abbrev pub formed : List Node → Place → Result Written FormFault
 formed book place =
     cond (nat_lt place.index (length book))

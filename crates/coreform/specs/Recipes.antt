@@ -17,6 +17,7 @@ use Rattle.rules.specs.declared.node.UnaryOp.{UnaryOp}
 use Rattle.rules.specs.declared.node.UnaryOp.TheVariants as unary
 use Rattle.semantics.specs.Rules.{Rule}
 
+-- a node of this kind over two core numbers
 abbrev pub joined : Joint → ℕ → ℕ → CoreNode
 joined joint.And a b = core.And a b
 joined joint.Or a b = core.Or a b
@@ -39,6 +40,7 @@ guard outer inner a b p = Write b p ∷ Write a p ∷ Write b p ∷ Join inner 1
 abbrev pub twins : Place → Place → Bool → List Step
 twins a b q = Write a true ∷ Write b q ∷ Join joint.And 0 1 ∷ Write a false ∷ Write b (not q) ∷ Join joint.And 3 4 ∷ Join joint.Or 2 5 ∷ []
 
+-- the steps for an operator of one operand, which stands at place a: for the rule (true) or its denial (false)
 abbrev pub unary_recipe : UnaryOp → Bool → Place → List Step
 unary_recipe unary.Not true a = Write a false ∷ []
 unary_recipe unary.Not false a = Write a true ∷ []
@@ -48,6 +50,7 @@ unary_recipe unary.Eventually false a = fixed core.False joint.Release a false
 unary_recipe unary.Always true a = fixed core.False joint.Release a true
 unary_recipe unary.Always false a = fixed core.True joint.Until a false
 
+-- the same for an operator of two operands, at places a and b
 abbrev pub binary_recipe : BinaryOp → Bool → Place → Place → List Step
 binary_recipe binary.And true a b = pair joint.And a true b true
 binary_recipe binary.And false a b = pair joint.Or a false b false
@@ -68,6 +71,7 @@ binary_recipe binary.WeakUntil false a b = guard joint.Until joint.And a b false
 binary_recipe binary.StrongRelease true a b = guard joint.Until joint.And a b true
 binary_recipe binary.StrongRelease false a b = guard joint.Release joint.Or a b false
 
+-- the steps for a node (true) or its denial (false)
 abbrev pub recipe_of : Node → Bool → List Step
 recipe_of True true = Leaf core.True ∷ []
 recipe_of True false = Leaf core.False ∷ []
@@ -91,12 +95,14 @@ node_over (Leaf n) ns = n
 node_over (Next i) ns = core.Next (slice_index ns i)
 node_over (Join j i k) ns = joined j (slice_index ns i) (slice_index ns k)
 
+-- what one step writes on the sheet, over the numbers of the steps before it
 abbrev pub stepped : (ℕ → Rule) → Step → List ℕ → List CoreNode → Written
 stepped rule (Write a p) ns sheet = write (core_of (rule a.index) p) sheet
 stepped rule (Leaf n) ns sheet = put (node_over (Leaf n) ns) sheet
 stepped rule (Next i) ns sheet = put (node_over (Next i) ns) sheet
 stepped rule (Join j i k) ns sheet = put (node_over (Join j i k) ns) sheet
 
+-- what the steps write one after the other, from these numbers and this sheet on
 abbrev pub made : (ℕ → Rule) → List Step → List ℕ → List CoreNode → Made
 made rule [] ns sheet = record { sheet = sheet; numbers = ns }
 made rule (s ∷ ss) ns sheet = let w = stepped rule s ns sheet in made rule ss (ns ++ w.root ∷ []) w.sheet

@@ -6,13 +6,15 @@ use Rattle.semantics.specs.Solutions.{Solution}
 use Rattle.judging.specs.Truths.{told}
 use Rattle.judging.specs.Turns.{node_hold, node_pass, lasts_of, denies_of}
 
--- the node's turn at each position
+-- whether the node holds at each position, by the truths of its operands there
 abbrev pub hold_on : Node → Lasso → List ℕ → ℕ → Bool
 hold_on node l work k = node_hold node (unrolled l k) (told work (scan_at l k)) (told work (scan_at l (suc k)))
 
+-- the same of whether it passes on
 abbrev pub pass_on : Node → Lasso → List ℕ → ℕ → Bool
 pass_on node l work k = node_pass node (told work (scan_at l k))
 
+-- the fact (false), or its denial (true)
 abbrev pub Denied : Bool → Type 0 → Type 0
 Denied false A = A
 Denied true A = ¬ A

@@ -6,8 +6,10 @@ use Rattle.semantics.specs.Meaning.{bit}
 abbrev pub word_of : ℕ → ℕ → ℕ
 word_of scan place = 4 * scan + place / 64
 
+-- the bit of a place in that word
 abbrev pub bit_of : ℕ → ℕ
 bit_of place = place % 64
 
+-- the work list tells the place true at the scan
 abbrev pub told : List ℕ → ℕ → ℕ → Bool
 told work scan place = bit (slice_index work (word_of scan place)) (bit_of place) == 1

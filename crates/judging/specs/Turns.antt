@@ -8,18 +8,21 @@ use Rattle.rules.specs.declared.node.UnaryOp.{UnaryOp}
 use Rattle.rules.specs.declared.node.UnaryOp.TheVariants.{Not, Next, Eventually, Always}
 use Rattle.semantics.specs.Meaning.{bit}
 
+-- an operator of one operand holds at a scan, whatever it says of the next one; where it denies, its denial does
 abbrev pub unary_hold : UnaryOp → Bool → Bool → Bool
 unary_hold Not now next = not now
 unary_hold Next now next = next
 unary_hold Eventually now next = now
 unary_hold Always now next = not now
 
+-- it passes on: where it does not hold at a scan, it says there what it says of the next one
 abbrev pub unary_pass : UnaryOp → Bool
 unary_pass Not = false
 unary_pass Next = false
 unary_pass Eventually = true
 unary_pass Always = true
 
+-- an operator of two operands holds at a scan, in the same sense
 abbrev pub binary_hold : BinaryOp → Bool → Bool → Bool
 binary_hold And a b = a && b
 binary_hold Or a b = a || b
@@ -31,6 +34,7 @@ binary_hold Release a b = not b
 binary_hold WeakUntil a b = b
 binary_hold StrongRelease a b = not b
 
+-- an operator of two operands passes on, in the same sense
 abbrev pub binary_pass : BinaryOp → Bool → Bool
 binary_pass And a = false
 binary_pass Or a = false
@@ -70,6 +74,7 @@ binary_lasts Release = false
 binary_lasts WeakUntil = true
 binary_lasts StrongRelease = true
 
+-- the same for any node
 abbrev pub lasts_of : Node → Bool
 lasts_of True = false
 lasts_of False = false
@@ -77,13 +82,14 @@ lasts_of (Signal s) = false
 lasts_of (Unary op a) = false
 lasts_of (Binary op a b) = binary_lasts op
 
--- the node is the denial of what its turns say
+-- the node says the denial of what its turns say
 abbrev pub unary_denies : UnaryOp → Bool
 unary_denies Not = false
 unary_denies Next = false
 unary_denies Eventually = false
 unary_denies Always = true
 
+-- the same for an operator of two operands
 abbrev pub binary_denies : BinaryOp → Bool
 binary_denies And = false
 binary_denies Or = false
@@ -95,6 +101,7 @@ binary_denies Release = true
 binary_denies WeakUntil = false
 binary_denies StrongRelease = true
 
+-- the same for any node
 abbrev pub denies_of : Node → Bool
 denies_of True = false
 denies_of False = false

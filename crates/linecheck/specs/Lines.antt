@@ -18,11 +18,13 @@ abbrev pub EdgeLine : List ℕ → Option Edge → Type 0
 EdgeLine line (Some edge) = SaysEdge line edge.scan edge.word
 EdgeLine line None = (scan word : ℕ) → SaysEdge line scan word → ⊥
 
+-- the line is `packed loop S`, and S is the loop start
 pub record SaysPacked (line : List ℕ) (start : ℕ) : Type 0 where
   pub digits : List ℕ
   pub parts : line ≡ codes "packed loop " ++ digits
   pub start_is : numeral 10 19 digits ≡ Some start
 
+-- the line is `edges N loop S`, where N is the number of scans and S the loop start
 pub record SaysEdges (line : List ℕ) (count start : ℕ) : Type 0 where
   pub front : List ℕ
   pub back : List ℕ

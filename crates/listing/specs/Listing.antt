@@ -20,6 +20,7 @@ use Rattle.listing.specs.declared.outcome.Listed.TheVariants.{Finished, NoRoom}
 abbrev pub allowance : ℕ
 allowance = 65535
 
+-- steps are still to be made
 abbrev pub is_running : Answer → Bool
 is_running (refusal fault s) = false
 is_running (progress finished s) = false

@@ -14,6 +14,7 @@ commands =
     ∷ (0x20, Binary And) ∷ (0x21, Binary Or) ∷ (0x22, Binary Implies) ∷ (0x23, Binary Equivalent) ∷ (0x24, Binary ExclusiveOr)
     ∷ (0x25, Binary Until) ∷ (0x26, Binary Release) ∷ (0x27, Binary WeakUntil) ∷ (0x28, Binary StrongRelease) ∷ []
 
+-- the command of the first entry with this byte
 abbrev pub command_in : List (ℕ × Command) → ℕ → Option Command
 command_in [] b = None
 command_in (c ∷ cs) b = cond (b == c.0) (Some c.1) (command_in cs b)
@@ -30,5 +31,6 @@ length_for (Some Signal) = 3
 length_for (Some (Unary o)) = 3
 length_for (Some (Binary o)) = 5
 
+-- how many bytes the command has that begins with a byte; 0 where none does
 abbrev pub length_of : ℕ → ℕ
 length_of b = length_for (command_of b)

@@ -13,12 +13,15 @@ use Rattle.rules.specs.declared.node.Place.{Place}
 abbrev pub number : ℕ → ℕ → ℕ
 number high low = high * 256 + low
 
+-- the place that two bytes name
 abbrev pub place : ℕ → ℕ → Place
 place high low = record { index = number high low }
 
+-- a node and the length of its command, or the fault
 abbrev pub Decoded : Type 0
 Decoded = Result (Node × ℕ) EnterFault
 
+-- the node of a signal; its number is at most 63
 abbrev pub signal : ℕ → Decoded
 signal s = cond (nat_le s 63) (Ok (node.Signal s, 3)) (Err (SignalAbove s))
 
@@ -38,6 +41,7 @@ operands b (Some (command.Binary o)) (h ∷ l ∷ []) = Err Truncated
 operands b (Some (command.Binary o)) (h ∷ l ∷ i ∷ []) = Err Truncated
 operands b (Some (command.Binary o)) (h ∷ l ∷ i ∷ m ∷ rest) = Ok (node.Binary o (place h l) (place i m), 5)
 
+-- what the bytes say; without any, they end before a command
 abbrev pub decoded : List ℕ → Decoded
 decoded [] = Err Truncated
 decoded (b ∷ rest) = operands b (command_of b) rest

@@ -12,6 +12,7 @@ use Rattle.rules.specs.declared.node.Place.{Place}
 abbrev pub Outcome : Type 0 → Type 0
 Outcome T = Result T EnterFault × List Node
 
+-- the place with this index
 abbrev pub at : ℕ → Place
 at k = record { index = k }
 
@@ -28,21 +29,26 @@ abbrev pub settled : List Node → Node → Option ℕ → Outcome Place
 settled xs n (Some k) = (Ok (at k), xs)
 settled xs n None = cond (nat_lt (length xs) 256) (Ok (at (length xs)), xs ++ n ∷ []) (Err Full, xs)
 
+-- what a node that may be entered gets: the first place of an equal one, where there is one
 abbrev pub added : List Node → Node → Outcome Place
 added xs n = settled xs n (place_of n xs)
 
+-- an answer with the length of the command beside the place
 abbrev pub with_length : ℕ → Result Place EnterFault → Result (Place × ℕ) EnterFault
 with_length l (Ok p) = Ok (p, l)
 with_length l (Err f) = Err f
 
+-- a missing operand is refused; else the node is added
 abbrev pub admitted : List Node → Node → ℕ → Option Place → Outcome (Place × ℕ)
 admitted xs n l (Some a) = (Err (NotEntered a), xs)
 admitted xs n l None = (with_length l (added xs n).0, (added xs n).1)
 
+-- what enter makes of decoded bytes: their fault stands, and a node is admitted or not
 abbrev pub taken : List Node → Decoded → Outcome (Place × ℕ)
 taken xs (Err f) = (Err f, xs)
 taken xs (Ok p) = admitted xs p.0 p.1 (missing p.0 (length xs))
 
+-- what enter makes of the bytes: its answer, and the nodes after it
 abbrev pub entered : List Node → List ℕ → Outcome (Place × ℕ)
 entered xs bytes = taken xs (decoded bytes)
 

@@ -5,6 +5,7 @@ use Rattle.rules.specs.declared.node.Place.{Place}
 use Rattle.rules.specs.declared.reading.ReadFault.{ReadFault}
 use Rattle.rules.specs.declared.reading.ReadFault.TheVariants.{FileSize, Command}
 
+-- the answer without the bytes that it hands back
 abbrev pub told : Result Place ReadFault → Reading
 told (Ok place) = rule place
 told (Err (FileSize file)) = wrong_size

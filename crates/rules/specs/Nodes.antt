@@ -8,13 +8,14 @@ use Rattle.rules.specs.declared.node.UnaryOp.TheVariants.{Not, Next, Eventually,
 use Rattle.rules.specs.declared.node.BinaryOp.{BinaryOp}
 use Rattle.rules.specs.declared.node.BinaryOp.TheVariants.{And, Or, Implies, Equivalent, ExclusiveOr, Until, Release, WeakUntil, StrongRelease}
 
--- the command byte of each operator
+-- the command byte of each operator of one operand
 abbrev pub unary_byte : UnaryOp → ℕ
 unary_byte Not = 0x11
 unary_byte Next = 0x12
 unary_byte Eventually = 0x13
 unary_byte Always = 0x14
 
+-- the same for the operators of two operands
 abbrev pub binary_byte : BinaryOp → ℕ
 binary_byte And = 0x20
 binary_byte Or = 0x21
@@ -26,6 +27,7 @@ binary_byte Release = 0x26
 binary_byte WeakUntil = 0x27
 binary_byte StrongRelease = 0x28
 
+-- the command byte of a node
 abbrev pub byte_of : Node → ℕ
 byte_of True = 0x00
 byte_of False = 0x01
@@ -33,7 +35,7 @@ byte_of (Signal s) = 0x10
 byte_of (Unary o a) = unary_byte o
 byte_of (Binary o a b) = binary_byte o
 
--- its operands, 0 where it has none
+-- its first operand, or the number of its signal; 0 where it has none
 abbrev pub first_of : Node → ℕ
 first_of True = 0
 first_of False = 0
@@ -41,6 +43,7 @@ first_of (Signal s) = s
 first_of (Unary o a) = a.index
 first_of (Binary o a b) = a.index
 
+-- its second operand, 0 where it has none
 abbrev pub second_of : Node → ℕ
 second_of True = 0
 second_of False = 0
@@ -65,5 +68,6 @@ abbrev pub place_from : ℕ → Node → List Node → Option ℕ
 place_from i n [] = None
 place_from i n (x ∷ xs) = cond (same x n) (Some i) (place_from (i + 1) n xs)
 
+-- the first place of a node equal to n in the list
 abbrev pub place_of : Node → List Node → Option ℕ
 place_of n xs = place_from 0 n xs

@@ -5,6 +5,7 @@ use Rattle.rules.specs.declared.fault.EnterFault.TheVariants.{UnknownCommand, Tr
 use Rattle.rules.specs.declared.reading.ReadFault.{ReadFault}
 use Rattle.rules.specs.declared.reading.ReadFault.TheVariants.{FileSize, Command}
 
+-- of a refusal of enter
 abbrev pub enter_number : EnterFault → ℕ
 enter_number (UnknownCommand byte) = 2
 enter_number Truncated = 3
@@ -12,6 +13,7 @@ enter_number (SignalAbove signal) = 4
 enter_number (NotEntered place) = 5
 enter_number Full = 6
 
+-- of a refusal of reading: that of enter where a command is refused
 abbrev pub read_number : ReadFault → ℕ
 read_number (FileSize file) = 1
 read_number (Command c) = enter_number c.fault

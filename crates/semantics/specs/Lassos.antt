@@ -1,6 +1,7 @@
 -- A lasso: scans 0 to n − 1, which are followed by those from the loop start on, without end.
 use Rattle.std.specs.Prelude.{ℕ, suc, ◌+◌, ◌-◌, ◌%◌, ◌^◌, ◌<◌, ◌≤◌, cond, List, length, nat_lt, slice_index}
 
+-- its words and its loop start; the number of scans is that of the words
 pub record Lasso : Type 0 where
   -- one for each scan
   pub words : List ℕ
@@ -16,6 +17,7 @@ pub record Sound (l : Lasso) : Type 0 where
 abbrev pub wrapped : ℕ → ℕ → ℕ → ℕ
 wrapped n s i = cond (nat_lt i n) i (s + (i - s) % (n - s))
 
+-- the same for a lasso
 abbrev pub scan_at : Lasso → ℕ → ℕ
 scan_at l i = wrapped (length l.words) l.start i
 

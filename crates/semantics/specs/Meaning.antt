@@ -14,18 +14,23 @@ bit word k = word / 2 ^ k % 2
 abbrev pub UntilAt : (ℕ → Type 0) → (ℕ → Type 0) → ℕ → Type 0
 UntilAt A B i = (j : ℕ) × (i ≤ j) × B j × ((k : ℕ) → i ≤ k → k < j → A k)
 
+-- a at some j from i on
 abbrev pub EventuallyAt : (ℕ → Type 0) → ℕ → Type 0
 EventuallyAt A = UntilAt (λ _. Unit {0}) A
 
+-- a at every j from i on: at none is it denied
 abbrev pub AlwaysAt : (ℕ → Type 0) → ℕ → Type 0
 AlwaysAt A i = ¬ EventuallyAt (λ k. ¬ A k) i
 
+-- a releases b: not (not a until not b)
 abbrev pub ReleaseAt : (ℕ → Type 0) → (ℕ → Type 0) → ℕ → Type 0
 ReleaseAt A B i = ¬ UntilAt (λ k. ¬ A k) (λ k. ¬ B k) i
 
+-- a until b, or always a
 abbrev pub WeakUntilAt : (ℕ → Type 0) → (ℕ → Type 0) → ℕ → Type 0
 WeakUntilAt A B i = UntilAt A B i ⊎ AlwaysAt A i
 
+-- a strongly releases b: not (not a weak until not b)
 abbrev pub StrongReleaseAt : (ℕ → Type 0) → (ℕ → Type 0) → ℕ → Type 0
 StrongReleaseAt A B i = ¬ WeakUntilAt (λ k. ¬ A k) (λ k. ¬ B k) i
 
@@ -36,6 +41,7 @@ UnaryAt Next A i = A (suc i)
 UnaryAt Eventually A i = EventuallyAt A i
 UnaryAt Always A i = AlwaysAt A i
 
+-- the same for an operator of two operands
 abbrev pub BinaryAt : BinaryOp → (ℕ → Type 0) → (ℕ → Type 0) → ℕ → Type 0
 BinaryAt And A B i = ¬ (¬ A i ⊎ ¬ B i)
 BinaryAt Or A B i = A i ⊎ B i

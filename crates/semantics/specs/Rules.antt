@@ -6,6 +6,7 @@ use Rattle.rules.specs.declared.node.Node.TheVariants.{True, False, Signal, Unar
 use Rattle.rules.specs.declared.node.Place.{Place}
 use Rattle.rules.specs.declared.node.UnaryOp.{UnaryOp}
 
+-- true, false, a signal, or an operator over one rule or two
 pub data Rule : Type 0 where
   Top Bottom : Rule
   -- the signal of this number
@@ -30,6 +31,7 @@ rule_within (suc n) book k = built (rule_within n book) (slice_index_or book k T
 abbrev pub rule_at : List Node → ℕ → Rule
 rule_at book k = rule_within (suc k) book k
 
+-- node n stands at place k of the book
 abbrev pub Stands : List Node → ℕ → Node → Type 0
 Stands book k n = (k < length book) × (slice_index_or book k True ≡ n)
 

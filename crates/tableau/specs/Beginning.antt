@@ -15,10 +15,11 @@ use Rattle.tableau.specs.declared.fault.BeginFault.TheVariants.{Form, TooManyUnt
 use Rattle.tableau.specs.declared.fault.LentList.TheVariants.{Sheet, Pending}
 use Rattle.tableau.specs.declared.translation.Running.{Running}
 
--- how many nodes and how many untils a core form has
+-- how many nodes a core form has
 abbrev pub cores : Written → ℕ
 cores w = length w.sheet
 
+-- how many untils it has
 abbrev pub untils : Written → ℕ
 untils w = untils_below w.sheet (cores w)
 
@@ -45,6 +46,7 @@ begun w = record { cores = cores w; sets = untils w; steps = 0; states = 0; arcs
 abbrev pub first_item : ℕ → Item
 first_item root = item 0 (set_of (2 ^ root)) empty empty
 
+-- what begin's answer says: the numbers of the translation, or the refusal
 abbrev pub begins : Result Running BeginFault → Result Standing BeginFault
 begins (Ok t) = Ok (standing t)
 begins (Err fault) = Err fault

@@ -18,6 +18,7 @@ Sound (Or a b) = (a < 64) × (b < 64)
 Sound (Until a b) = (a < 64) × (b < 64)
 Sound (Release a b) = (a < 64) × (b < 64)
 
+-- both numbers are below n
 abbrev pub both_below : ℕ → ℕ → ℕ → Bool
 both_below n a b = nat_lt a n && nat_lt b n
 
@@ -33,8 +34,10 @@ sound_on n (Or a b) = both_below n a b
 sound_on n (Until a b) = both_below n a b
 sound_on n (Release a b) = both_below n a b
 
+-- the state has this Old and Next
 abbrev pub is_state : State → CoreSet → CoreSet → Bool
 is_state s old next = s.old.bits == old.bits && s.next.bits == next.bits
 
+-- the arcs have the same two ends
 abbrev pub same_arc : Arc → Arc → Bool
 same_arc a b = a.from == b.from && a.to == b.to

@@ -11,6 +11,7 @@ use Rattle.automata.specs.declared.nodes.CoreSet.{CoreSet}
 use Rattle.tableau.specs.declared.plans.Plan.{Plan}
 use Rattle.tableau.specs.declared.plans.Plan.TheVariants.{Nothing, One, Two, Join, Make}
 
+-- the plan of the items that go back in for core number k
 abbrev pub split_plan : CoreNode → ℕ → ℕ → CoreSet → CoreSet → CoreSet → Plan
 split_plan True k f n o x = One (item f n o x)
 split_plan False k f n o x = Nothing
@@ -22,14 +23,17 @@ split_plan (Or a b) k f n o x = Two (item f (join a o n) o x) (item f (join b o 
 split_plan (Until a b) k f n o x = Two (item f (join a o n) o (insert x k)) (item f (join b o n) o x)
 split_plan (Release a b) k f n o x = Two (item f (join b o n) o (insert x k)) (item f (join b o (join a o n)) o x)
 
+-- the plan where core number k leaves New: nothing where the node drops the item
 abbrev pub taken_plan : List CoreNode → ℕ → Item → Plan
 taken_plan sheet k i =
     cond (drops sheet i.old (node_on sheet k)) Nothing
     (split_plan (node_on sheet k) k i.source (remove i.new k) (insert i.old k) i.next)
 
+-- the plan where there is a state with this Old and Next: its arc, unless it is there; one from above the n states counts as absent
 abbrev pub join_plan : ℕ → Arc → List Arc → Plan
 join_plan n a arcs = cond (nat_le a.from n && arc_among a arcs) Nothing (Join a)
 
+-- the plan where New is empty: an arc to the state with this Old and Next, or a new state with an arc and an item
 abbrev pub settle_plan : List CoreNode → List State → List Arc → Item → Plan
 settle_plan sheet states arcs i =
     cond (nat_lt (states_before i.old i.next states) (length states))
@@ -41,6 +45,7 @@ abbrev pub planned : List CoreNode → List State → List Arc → Item → Plan
 planned sheet states arcs i = cond (i.new.bits == 0) (settle_plan sheet states arcs i) (taken_plan sheet (lowest i.new) i)
 
 -- ---- what a plan makes of the lists
+-- the states that it adds
 abbrev pub new_states : Plan → List State
 new_states Nothing = []
 new_states (One i) = []
@@ -48,6 +53,7 @@ new_states (Two i j) = []
 new_states (Join a) = []
 new_states (Make s a i) = s ∷ []
 
+-- the arcs that it adds
 abbrev pub new_arcs : Plan → List Arc
 new_arcs Nothing = []
 new_arcs (One i) = []
@@ -73,6 +79,7 @@ applied p rest c = record {
 }
 
 -- ---- what a plan writes: into the place after those in use, and from the place of the last item on
+-- n states are in use
 abbrev pub states_with : Plan → ℕ → List State → List State
 states_with Nothing n xs = xs
 states_with (One i) n xs = xs
@@ -80,6 +87,7 @@ states_with (Two i j) n xs = xs
 states_with (Join a) n xs = xs
 states_with (Make s a i) n xs = slice_set xs n s
 
+-- n arcs are in use
 abbrev pub arcs_with : Plan → ℕ → List Arc → List Arc
 arcs_with Nothing n xs = xs
 arcs_with (One i) n xs = xs
@@ -87,6 +95,7 @@ arcs_with (Two i j) n xs = xs
 arcs_with (Join a) n xs = slice_set xs n a
 arcs_with (Make s a i) n xs = slice_set xs n a
 
+-- n items are in use; the last of them is the one taken out, and its place is written first
 abbrev pub items_with : Plan → ℕ → List Item → List Item
 items_with Nothing n xs = xs
 items_with (One i) n xs = slice_set xs (n - 1) i

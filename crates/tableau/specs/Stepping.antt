@@ -23,6 +23,7 @@ pub record Lists : Type 0 where
   pub arcs : List Arc
   pub pending : List Item
 
+-- these four lists
 abbrev pub lists : List CoreNode → List State → List Arc → List Item → Lists
 lists sheet states arcs pending = record { sheet = sheet; states = states; arcs = arcs; pending = pending }
 
@@ -36,6 +37,7 @@ pub record Standing : Type 0 where
   pub arcs : ℕ
   pub pending : ℕ
 
+-- the numbers of a running translation
 abbrev pub standing : RunningT → Standing
 standing t = record { cores = t.cores; sets = t.sets; steps = t.steps; states = t.states; arcs = t.arcs; pending = t.pending }
 
@@ -82,17 +84,20 @@ pub data Answer : Type 0 where
   refusal : ShortFault → Standing → Answer
   progress : Progressed → Standing → Answer
 
+-- what lacks, by its name in the code
 abbrev pub lacking_of : Lack → Lacking
 lacking_of LackSteps = no_steps
 lacking_of LackStates = no_states
 lacking_of LackArcs = no_arcs
 lacking_of LackPending = no_pending
 
+-- what an answer says that is no refusal
 abbrev pub progress_told : Progress → Answer
 progress_told (Finished t) = progress finished (ended t)
 progress_told (Running t) = progress running (standing t)
 progress_told (NoRoom t l) = progress (no_room (lacking_of l)) (standing t)
 
+-- what step's answer says
 abbrev pub told : Result Progress StepRefused → Answer
 told (Ok p) = progress_told p
 told (Err e) = refusal e.fault (standing e.translation)

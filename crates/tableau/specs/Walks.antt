@@ -23,12 +23,15 @@ config_of c ss xs ps = record {
   pending = reverse (take c.pending ps);
 }
 
+-- how many entries of the lists may be in use
 abbrev pub space_of : List State → List Arc → List Item → Space
 space_of ss xs ps = record { states = min 1023 (length ss); arcs = min 8191 (length xs); pending = min 1024 (length ps) }
 
+-- the same with the most steps that there may be
 abbrev pub room_in : Space → Room
 room_in s = record { steps = 4294967295; states = s.states; arcs = s.arcs; pending = s.pending }
 
+-- the answer that stands for an outcome
 abbrev pub answer_of : Outcome → Progressed
 answer_of Finished = finished
 answer_of Running = running
@@ -58,6 +61,7 @@ pub record Stuck (sheet : List CoreNode) (s : Space) (c : Counts) (ss : List Sta
   pub arcs : xs' ≡ xs
   pub pending : ps' ≡ ps
 
+-- a step was made, or there is no room for one
 abbrev pub Turned : List CoreNode → Space → Counts → List State → List Arc → List Item → Result Counts Lack → List State → List Arc → List Item → Type 0
 Turned sheet s c ss xs ps (Ok r) ss' xs' ps' = Went sheet s c ss xs ps r ss' xs' ps'
 Turned sheet s c ss xs ps (Err l) ss' xs' ps' = Stuck sheet s c ss xs ps l ss' xs' ps'

@@ -8,6 +8,7 @@ digit_of b =
     (cond (nat_lt b 65) None (cond (nat_lt b 71) (Some (b - 55))
     (cond (nat_lt b 97) None (cond (nat_lt b 103) (Some (b - 87)) None)))))
 
+-- f of the number, where there is one
 abbrev pub and_then : Option ℕ → (ℕ → Option ℕ) → Option ℕ
 and_then None f = None
 and_then (Some d) f = f d

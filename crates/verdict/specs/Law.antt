@@ -25,6 +25,7 @@ pub record SameRecording (l l' : Lasso) : Type 0 where
 abbrev pub SameAnswers : {book book' : List Node} → BookLog book → BookLog book' → Type 0
 SameAnswers log log' = (place : Place) (recording : Lasso) (verdict : Bool) → Answered log place recording verdict ↔ Answered log' place recording verdict
 
+-- what holds of all books, logs and translations
 pub record OneVerdict : Type 0 where
   -- every book that exists is sound
   pub book_sound : {book : List Node} → BookLog book → SoundBook book

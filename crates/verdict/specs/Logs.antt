@@ -41,6 +41,7 @@ Answered (begun log call) place recording verdict = Answered log place recording
 pub data Phase : Type 0 where
   going done : Phase
 
+-- a translation is done where step answers that it is finished
 abbrev pub phase_at : Progressed → Phase
 phase_at finished = done
 phase_at running = going

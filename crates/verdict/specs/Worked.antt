@@ -20,40 +20,51 @@ pub record Judgment : Type 0 where
   pub recording : Lasso
   pub verdict : Bool
 
+-- a rule file, the words and the loop start of a recording, and the verdict
 abbrev pub judgment : List ℕ → List ℕ → ℕ → Bool → Judgment
 judgment file words start verdict = record { file = file; recording = record { words = words; start = start }; verdict = verdict }
 
--- the rule files
+-- the rule files, each by its commands: p0, p1, p0 until p1
 abbrev pub p0_until_p1 : List ℕ
 p0_until_p1 = 0x10 ∷ 0 ∷ 0 ∷ 0x10 ∷ 0 ∷ 1 ∷ 0x25 ∷ 0 ∷ 0 ∷ 0 ∷ 1 ∷ []
 
+-- p0, p1, p0 weak until p1
 abbrev pub p0_weak_until_p1 : List ℕ
 p0_weak_until_p1 = 0x10 ∷ 0 ∷ 0 ∷ 0x10 ∷ 0 ∷ 1 ∷ 0x27 ∷ 0 ∷ 0 ∷ 0 ∷ 1 ∷ []
 
+-- p0, eventually p0
 abbrev pub eventually_p0 : List ℕ
 eventually_p0 = 0x10 ∷ 0 ∷ 0 ∷ 0x13 ∷ 0 ∷ 0 ∷ []
 
+-- p0, eventually p0, always eventually p0
 abbrev pub always_eventually_p0 : List ℕ
 always_eventually_p0 = 0x10 ∷ 0 ∷ 0 ∷ 0x13 ∷ 0 ∷ 0 ∷ 0x14 ∷ 0 ∷ 1 ∷ []
 
+-- true
 abbrev pub just_true : List ℕ
 just_true = 0x00 ∷ []
 
+-- false
 abbrev pub just_false : List ℕ
 just_false = 0x01 ∷ []
 
+-- p0, always p0
 abbrev pub always_p0 : List ℕ
 always_p0 = 0x10 ∷ 0 ∷ 0 ∷ 0x14 ∷ 0 ∷ 0 ∷ []
 
+-- p0, next p0
 abbrev pub next_p0 : List ℕ
 next_p0 = 0x10 ∷ 0 ∷ 0 ∷ 0x12 ∷ 0 ∷ 0 ∷ []
 
+-- p0, p0 or p0
 abbrev pub p0_or_p0 : List ℕ
 p0_or_p0 = 0x10 ∷ 0 ∷ 0 ∷ 0x21 ∷ 0 ∷ 0 ∷ 0 ∷ 0 ∷ []
 
+-- p0, not p0, p0 and not p0
 abbrev pub p0_and_not_p0 : List ℕ
 p0_and_not_p0 = 0x10 ∷ 0 ∷ 0 ∷ 0x11 ∷ 0 ∷ 0 ∷ 0x20 ∷ 0 ∷ 0 ∷ 0 ∷ 1 ∷ []
 
+-- p0, not p0, not p0 and p0
 abbrev pub not_p0_and_p0 : List ℕ
 not_p0_and_p0 = 0x10 ∷ 0 ∷ 0 ∷ 0x11 ∷ 0 ∷ 0 ∷ 0x20 ∷ 0 ∷ 1 ∷ 0 ∷ 0 ∷ []
 
@@ -65,13 +76,16 @@ pub record Listing : Type 0 where
   pub sets : ℕ
   pub steps : ℕ
 
+-- a rule file, and its states, arcs, mark sets and steps
 abbrev pub listing : List ℕ → ℕ → ℕ → ℕ → ℕ → Listing
 listing file states arcs sets steps = record { file = file; states = states; arcs = arcs; sets = sets; steps = steps }
 
+-- a line of the table
 pub data Line : Type 0 where
   judges : Judgment → Line
   lists : Listing → Line
 
+-- the table: verdicts, and listings by their counts
 abbrev pub table : List Line
 table =
     judges (judgment p0_until_p1 (1 ∷ 1 ∷ 2 ∷ []) 2 true)
@@ -116,9 +130,11 @@ pub record Listed (line : Listing) : Type 0 where
   pub numbered : Numbered line (standing_at (begun (form_at book place)) (after (form_at book place).sheet (form_at book place).root line.steps))
   pub translates : {numbers : Standing} {kept : Lists} → TranslationLog book place done numbers kept → Numbered line numbers
 
+-- a line is right
 abbrev pub Works : Line → Type 0
 Works (judges j) = Right j
 Works (lists l) = Listed l
 
+-- every line of the table is right
 abbrev pub WorkedTable : Type 0
 WorkedTable = AllByRecursion Works table
