@@ -2,8 +2,9 @@
 ghost use Rattle.std.specs.Prelude.{◌≡◌, ℕ, ◌<◌, Bool, Some, None};
 ghost use Rattle.coreform.specs.Remembered.{number_of, with_number};
 
-use crate::numbers::{Numbers, PLACES};
+use crate::numbers::Numbers;
 use rules::node::Place;
+use rules::table::ROOM;
 
 impl Numbers {
     // Nothing is remembered.
@@ -11,8 +12,8 @@ impl Numbers {
         ensures { (polarity : Bool) (k : ℕ) → number_of result polarity k ≡ None }
     {
         Numbers {
-            held: [None; PLACES],
-            denied: [None; PLACES],
+            held: [None; ROOM],
+            denied: [None; ROOM],
         }
     }
 

@@ -3,10 +3,8 @@ ghost use Rattle.std.specs.Prelude.{◌≡◌};
 ghost use Rattle.coreform.specs.Forms.{nodes_of, shown, formed, form_number};
 ghost use Rattle.rules.specs.Books.{entries};
 
-use crate::draft::Draft;
 use crate::form::{CoreForm, FormFault};
-use crate::numbers::Numbers;
-use crate::writing::write;
+use crate::writing::Writer;
 use automata::nodes::CoreNode;
 use rules::book::Book;
 use rules::node::Place;
@@ -28,7 +26,7 @@ impl CoreForm {
     pub fn nodes(&self) -> &[CoreNode]
         ensures { result.now ≡ nodes_of self.now }
     {
-        &self.nodes[0..self.count]
+        self.nodes.nodes()
     }
 
     // The number of the whole.
@@ -46,12 +44,11 @@ pub fn core_form(book: &Book, place: Place) -> Result<CoreForm, FormFault>
     if place.index as usize >= book.len() {
         return Err(FormFault::NotInBook(place));
     }
-    let mut draft = Draft::new();
-    let mut numbers = Numbers::new();
-    let root = write(&mut draft, &mut numbers, book, place, true);
-    let Draft { nodes, count, full } = draft;
-    if full {
-        return Err(FormFault::TooManyNodes);
-    }
-    Ok(CoreForm { nodes, count, root })
+    let mut writer = Writer::new(book);
+    let root = writer.write(place, true).ok_or(FormFault::TooManyNodes)?;
+    writer.draft.few();
+    Ok(CoreForm {
+        nodes: writer.draft,
+        root,
+    })
 }
