@@ -16,7 +16,7 @@ pub enum CoreNode {
 }
 
 // A set of core numbers: number k is in it when bit k is on.
-#[derive(Clone, Copy, PartialEq, Eq, Debug)]
+#[derive(Clone, Copy, PartialEq, Eq, Debug, Default)]
 pub struct CoreSet {
     pub bits: u64,
 }
