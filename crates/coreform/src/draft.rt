@@ -8,7 +8,7 @@ ghost use Rattle.coreform.specs.Drafts.{Drafted};
 use automata::nodes::CoreNode;
 use std::marker::Model;
 
-// How many nodes a core form may have.
+/// The most nodes that a core form may have.
 pub const MOST_NODES: usize = 64;
 
 /// The nodes of a core form, in the order of their numbers: at most 64.

@@ -4,6 +4,7 @@ ghost use Rattle.std.specs.Prelude.{◌≡◌, length};
 use rules::table::ROOM;
 
 // For each place the number of its core form, and of its denial's.
+// Kept: the new form is no plainer, since of an array of pairs the polarity still chooses a part.
 #[derive(Drop)]
 pub struct Numbers {
     pub(crate) held: [Option<u8>; ROOM],

@@ -15,10 +15,12 @@ pub enum Joint {
     Release,
 }
 
+// Kept: closures as steps are refused by a rule of the project, as functions that hand them out.
 // One step; the numbers that the steps before it answered are counted from 0.
 #[derive(Clone, Copy)]
 pub enum Step {
     // write the rule at a place (true), or its denial (false)
+    // Kept: an enum of polarities is no plainer, for `core_of` and its laws take a Bool.
     Write(Place, bool),
     // put a node without operands
     Leaf(CoreNode),

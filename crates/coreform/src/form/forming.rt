@@ -10,7 +10,7 @@ use rules::book::Book;
 use rules::node::Place;
 
 impl FormFault {
-    // The number of the refusal.
+    /// The number of the refusal: 9 or 7. docs/REFUSALS.md has them all.
     pub fn number(&self) -> u8
         ensures { result ≡ form_number self.now }
     {
@@ -22,14 +22,14 @@ impl FormFault {
 }
 
 impl CoreForm {
-    // The nodes, in the order of their numbers.
+    /// The nodes in the order of their numbers, which count from 0: at most 64.
     pub fn nodes(&self) -> &[CoreNode]
         ensures { result.now ≡ nodes_of self.now }
     {
         self.nodes.nodes()
     }
 
-    // The number of the whole.
+    /// The number of the whole: one of the nodes.
     pub fn root(&self) -> u8
         ensures { result ≡ self.now.root }
     {
@@ -37,7 +37,8 @@ impl CoreForm {
     }
 }
 
-// The core form of the rule at a place.
+/// The core form of the rule at a place of a book, as docs/TRANSLATION.md has it. Refused are a place
+/// that is not in the book (9), and a core form of over 64 nodes (7).
 pub fn core_form(book: &Book, place: Place) -> Result<CoreForm, FormFault>
     ensures { shown result ≡ formed (entries book.now) place }
 {
