@@ -4,6 +4,7 @@ ghost use Rattle.std.specs.List.{position};
 ghost use Rattle.automata.specs.Sheets.{same, put};
 ghost use Rattle.automata.specs.declared.nodes.CoreNode.{CoreNode as AnyNode};
 ghost use Rattle.coreform.specs.Drafts.{Drafted};
+ghost use Rattle.coreform.specs.declared.draft.TheConstants.{MOST_NODES};
 
 use automata::nodes::CoreNode;
 use std::marker::Model;
@@ -23,7 +24,7 @@ impl Model for Draft {
 
     ghost view = { λ d. take d.count d.nodes };
 
-    ghost invariant = { λ d. d.count ≤ 64 };
+    ghost invariant = { λ d. d.count ≤ MOST_NODES };
 }
 
 // Where a node stands.
@@ -44,16 +45,16 @@ impl Draft {
         }
     }
 
-    /// The nodes that are written.
-    pub fn nodes(&self) -> &[CoreNode]
+    // The nodes that are written, in the order of their numbers.
+    pub(crate) fn nodes(&self) -> &[CoreNode]
         ensures { result.now ≡ self.now }
     {
         &self.nodes[..self.count]
     }
 
-    // At most 64 nodes are written.
+    // For a proof: at most 64 nodes are written.
     pub(crate) fn few(&self)
-        ensures { length self.now ≤ 64 }
+        ensures { length self.now ≤ MOST_NODES }
     {
         let _ = &self.count;
     }

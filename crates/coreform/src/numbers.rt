@@ -1,5 +1,6 @@
 // The numbers that places and their denials have on a draft, once they are written.
 ghost use Rattle.std.specs.Prelude.{◌≡◌, length};
+ghost use Rattle.rules.specs.declared.table.TheConstants.{ROOM};
 
 use rules::table::ROOM;
 
@@ -9,6 +10,6 @@ use rules::table::ROOM;
 pub struct Numbers {
     pub(crate) held: [Option<u8>; ROOM],
     pub(crate) denied: [Option<u8>; ROOM],
-    ghost places: { length held ≡ 256 },
-    ghost denials: { length denied ≡ 256 },
+    ghost places: { length held ≡ ROOM },
+    ghost denials: { length denied ≡ ROOM },
 }

@@ -1,5 +1,6 @@
 // How the core form of a node is written, from the numbers of its operands.
 ghost use Rattle.std.specs.Prelude.{◌≡◌, ◌<◌, ◌≤◌, List, length, take};
+ghost use Rattle.coreform.specs.declared.recipe.TheConstants.{MOST_STEPS};
 ghost use Rattle.coreform.specs.declared.recipe.Step.{Step as AnyStep};
 
 use automata::nodes::CoreNode;
@@ -7,6 +8,7 @@ use rules::node::Place;
 use std::marker::Model;
 
 // A core node of two operands.
+// Kept: it is matched once, and closures in its place would be handed out with the recipe.
 #[derive(Clone, Copy)]
 pub enum Joint {
     And,
@@ -40,20 +42,17 @@ pub struct Recipe {
 }
 
 impl Model for Recipe {
-    ghost use Rattle.std.specs.Prelude.{◌<◌, ◌≤◌, List, take};
-    ghost use Rattle.coreform.specs.declared.recipe.Step.{Step as AnyStep};
-
     ghost Value = { List AnyStep };
 
     ghost view = { λ r. take r.count r.steps };
 
-    ghost invariant = { λ r. (0 < r.count) × (r.count ≤ 7) };
+    ghost invariant = { λ r. (0 < r.count) × (r.count ≤ MOST_STEPS) };
 }
 
 impl Recipe {
     // A recipe of these steps.
     pub(crate) fn new(given: &[Step]) -> Recipe
-        requires { (0 < length given.now) × (length given.now ≤ 7) }
+        requires { (0 < length given.now) × (length given.now ≤ MOST_STEPS) }
         ensures { result ≡ given.now }
     {
         let mut steps = [Step::Leaf(CoreNode::False); MOST_STEPS];
@@ -66,7 +65,7 @@ impl Recipe {
     pub(crate) fn steps(&self) -> &[Step]
         ensures steps { result.now ≡ self.now }
         ensures some { 0 < length result.now }
-        ensures few { length result.now ≤ 7 }
+        ensures few { length result.now ≤ MOST_STEPS }
     {
         &self.steps[..self.count]
     }
