@@ -15,7 +15,7 @@ use Rattle.semantics.specs.Rules.{rule_at}
 
 -- as the sheet grows
 pub known_grows : (book : List Node) (draft draft' : List CoreNode) (n : Numbers) → Begins draft draft' → Known book draft n → Known book draft' n
-known_grows book draft draft' n begins known polarity p x lt e = stays_more _ draft draft' x begins (known polarity p x lt e)
+known_grows book draft draft' n begins known polarity p x e = stays_more _ draft draft' x begins (known polarity p x e)
 
 -- what has been written stands on the draft
 pub stands_written : (c : Core) (before draft : List CoreNode) (k : ℕ) → write c before ≡ record { sheet = draft; root = k } → Stands c draft k
@@ -24,7 +24,7 @@ stands_written c before draft k e = subst (λ w. Stands c w.sheet w.root) e (wri
 -- one number more is remembered
 pub known_more : (book : List Node) (draft : List CoreNode) (n n' : Numbers) (polarity : Bool) (place number : ℕ) → Known book draft n
     → ((p : Bool) (k : ℕ) → number_of n' p k ≡ with_number n polarity place number p k) → Stands (core_of (rule_at book place) polarity) draft number → Known book draft n'
-known_more book draft n n' polarity place number known sets stands p k x lt e = go (beq p polarity && eqb k place) refl
+known_more book draft n n' polarity place number known sets stands p k x e = go (beq p polarity && eqb k place) refl
   where
     go : (b : Bool) → (beq p polarity && eqb k place) ≡ b → Stands (core_of (rule_at book k) p) draft x
     go true t =
@@ -36,4 +36,4 @@ known_more book draft n n' polarity place number known sets stands p k x lt e = 
       where
         same_some : {a b : ℕ} → Some a ≡ Some b → a ≡ b
         same_some z = cc
-    go false t = known p k x lt (sym (ap (λ b. cond b (Some number) (number_of n p k)) t) ∙ sym (sets p k) ∙ e)
+    go false t = known p k x (sym (ap (λ b. cond b (Some number) (number_of n p k)) t) ∙ sym (sets p k) ∙ e)

@@ -1,5 +1,5 @@
 -- Writing with a memory: what is remembered stands on the draft.
-use Rattle.std.specs.Prelude.{◌≡◌, ℕ, ◌<◌, Bool, List, ◌++◌, Some, Option}
+use Rattle.std.specs.Prelude.{◌≡◌, ℕ, Bool, List, ◌++◌, Some, Option}
 use Rattle.automata.specs.Cores.{Core, core_of}
 use Rattle.automata.specs.Sheets.{write}
 use Rattle.automata.specs.declared.nodes.CoreNode.{CoreNode}
@@ -15,7 +15,7 @@ Stands c sheet k = (more : List CoreNode) → write c (sheet ++ more) ≡ record
 
 -- each number that is remembered is right
 abbrev pub Known : List Node → List CoreNode → Numbers → Type 0
-Known book draft n = (polarity : Bool) (k x : ℕ) → k < 256 → number_of n polarity k ≡ Some x → Stands (core_of (rule_at book k) polarity) draft x
+Known book draft n = (polarity : Bool) (k x : ℕ) → number_of n polarity k ≡ Some x → Stands (core_of (rule_at book k) polarity) draft x
 
 -- the core form is now written on the draft, under the number that was answered, or has no room there
 abbrev pub Writes : Core → List CoreNode → Option ℕ → List CoreNode → Type 0

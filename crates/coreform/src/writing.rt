@@ -3,7 +3,6 @@ ghost use Rattle.std.specs.Prelude.{◌≡◌, ◌<◌, [], length, slice_index,
 ghost use Rattle.automata.specs.Cores.{core_of};
 ghost use Rattle.coreform.specs.Recipes.{joined, node_over};
 ghost use Rattle.coreform.specs.Writing.{Known, Writes};
-ghost use Rattle.rules.specs.Books.{entries};
 ghost use Rattle.semantics.specs.Rules.{rule_at};
 
 use crate::cookbook::recipe_of;
@@ -57,7 +56,7 @@ impl<'a> Writer<'a> {
     pub(crate) fn new(book: &'a Book) -> Writer<'a>
         ensures draft { result.draft ≡ [] }
         ensures book { result.book.now ≡ book.now }
-        ensures known { Known (entries book.now) result.draft result.numbers }
+        ensures known { Known book.now result.draft result.numbers }
     {
         Writer {
             draft: Draft::new(),
@@ -69,19 +68,16 @@ impl<'a> Writer<'a> {
     // Writes the core form of the rule at a place (true), or of its denial (false), and answers its
     // number: none where there are over 64 nodes.
     pub(crate) fn write(&mut self, place: Place, polarity: bool) -> Option<u8>
-        requires entered { place.index < length (entries self.old.book.now) }
-        requires known { Known (entries self.old.book.now) self.old.draft self.old.numbers }
-        ensures writes { Writes (core_of (rule_at (entries self.old.book.now) place.index) polarity) self.old.draft result self.new.draft }
-        ensures known { IfSome result (λ _. Known (entries self.old.book.now) self.new.draft self.new.numbers) }
+        requires entered { place.index < length self.old.book.now }
+        requires known { Known self.old.book.now self.old.draft self.old.numbers }
+        ensures writes { Writes (core_of (rule_at self.old.book.now place.index) polarity) self.old.draft result self.new.draft }
+        ensures known { IfSome result (λ _. Known self.old.book.now self.new.draft self.new.numbers) }
         ensures book { self.new.book.now ≡ self.old.book.now }
     {
         if let Some(number) = self.numbers.get(polarity, place) {
             return Some(number);
         }
-        let Some(node) = self.book.get(place) else {
-            return None;
-        };
-        let recipe = recipe_of(node, polarity);
+        let recipe = recipe_of(self.book.nodes()[place.index as usize], polarity);
         let steps = recipe.steps();
         let mut made = [0u8; MOST_STEPS];
         for (at, step) in steps.iter().enumerate() {

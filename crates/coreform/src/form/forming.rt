@@ -1,7 +1,6 @@
 // Making a core form, and asking for its parts.
 ghost use Rattle.std.specs.Prelude.{◌≡◌};
 ghost use Rattle.coreform.specs.Forms.{nodes_of, shown, formed, form_number};
-ghost use Rattle.rules.specs.Books.{entries};
 
 use crate::form::{CoreForm, FormFault};
 use crate::writing::Writer;
@@ -40,7 +39,7 @@ impl CoreForm {
 /// The core form of the rule at a place of a book, as docs/TRANSLATION.md has it. Refused are a place
 /// that is not in the book (9), and a core form of over 64 nodes (7).
 pub fn core_form(book: &Book, place: Place) -> Result<CoreForm, FormFault>
-    ensures { shown result ≡ formed (entries book.now) place }
+    ensures { shown result ≡ formed book.now place }
 {
     if place.index as usize >= book.len() {
         return Err(FormFault::NotInBook(place));
