@@ -1,9 +1,11 @@
 // Remembering the number of a place, of the rule there or of its denial.
 ghost use Rattle.std.specs.Prelude.{◌≡◌, ℕ, ◌<◌, Bool, Some, None};
+ghost use Rattle.rules.specs.declared.table.TheConstants.{ROOM};
 ghost use Rattle.coreform.specs.Remembered.{number_of, with_number};
 
-use crate::numbers::{Numbers, PLACES};
+use crate::numbers::Numbers;
 use rules::node::Place;
+use rules::table::ROOM;
 
 impl Numbers {
     // Nothing is remembered.
@@ -11,26 +13,22 @@ impl Numbers {
         ensures { (polarity : Bool) (k : ℕ) → number_of result polarity k ≡ None }
     {
         Numbers {
-            held: [None; PLACES],
-            denied: [None; PLACES],
+            held: [None; ROOM],
+            denied: [None; ROOM],
         }
     }
 
     // The number of the rule at a place (true), or of its denial (false).
     pub(crate) fn get(&self, polarity: bool, place: Place) -> Option<u8>
-        requires { place.index < 256 }
         ensures { result ≡ number_of self.now polarity place.index }
     {
-        let index = place.index as usize;
-        if polarity {
-            self.held[index]
-        } else {
-            self.denied[index]
-        }
+        let numbers = if polarity { &self.held } else { &self.denied };
+        *numbers.get(place.index as usize)?
     }
 
+    // Remembers one number more.
     pub(crate) fn set(&mut self, polarity: bool, place: Place, number: u8)
-        requires { place.index < 256 }
+        requires { place.index < ROOM }
         ensures { (p : Bool) (k : ℕ) → number_of self.new p k ≡ with_number self.old polarity place.index number p k }
     {
         let index = place.index as usize;

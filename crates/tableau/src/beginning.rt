@@ -1,21 +1,16 @@
 // The beginning of a translation.
 ghost use Rattle.std.specs.Prelude.{◌≡◌, ℕ, ◌<◌, ◌≤◌, ◌++◌, length, drop};
-ghost use Rattle.rules.specs.Books.{entries};
 ghost use Rattle.tableau.specs.Beginning.{first_item, begins, Begins};
 
 use crate::fault::{BeginFault, LentList, ShortFault};
 use crate::gathers::count_untils;
+use crate::limits::MOST_UNTILS;
 use crate::translation::Running;
 use automata::items::Item;
 use automata::nodes::{CoreNode, CoreSet};
 use coreform::form::forming::core_form;
 use rules::book::Book;
 use rules::node::Place;
-
-// How many untils a core form may have.
-const MOST_UNTILS: u8 = 16;
-
-const NONE: CoreSet = CoreSet { bits: 0 };
 
 // The item of the start: the rule is still to be worked on.
 fn first_item(root: u8) -> Item
@@ -26,8 +21,8 @@ fn first_item(root: u8) -> Item
     Item {
         source: 0,
         new,
-        old: NONE,
-        next: NONE,
+        old: CoreSet::default(),
+        next: CoreSet::default(),
     }
 }
 
@@ -49,7 +44,7 @@ pub fn begin(
     sheet: &mut [CoreNode],
     pending: &mut [Item],
 ) -> Result<Running, BeginFault>
-    ensures { Begins (entries book.now) place sheet.old pending.old (begins result) sheet.new pending.new }
+    ensures { Begins book.now place sheet.old pending.old (begins result) sheet.new pending.new }
 {
     let form = core_form(book, place)?;
     let nodes = form.nodes();
