@@ -26,7 +26,3 @@ told_else work i p j q h few few' other = ap (λ b. eqb b 1) (elim (ℕ_discrete
       ∙ insert_other (get_or work (word_of i p) 0) (bit_of p) (bit_of q) apart
       ∙ ap (λ x. bit (get_or work x 0) (bit_of q)) (sym e)
 ])
-
--- a list of zeros tells nothing
-pub told_none : (work : List ℕ) (words i q : ℕ) → ((k : ℕ) → k < words → get_or work k 0 ≡ 0) → 4 * i + 4 ≤ words → q < 256 → told work i q ≡ false
-told_none work words i q zeros h few = ne_eqb _ 1 (λ e. let z = ap (λ w. bit w (bit_of q)) (zeros (word_of i q) (omega arith)) ∙ bit_at-zero (bit_of q) in omega arith)

@@ -78,9 +78,6 @@ module _ (hold pass : ℕ → Bool) where
   abbrev pub Reached : Bool → ℕ → ℕ → Type 0
   Reached g n i = HitBefore n i ⊎ ((g ≡ true) × ((k : ℕ) → i ≤ k → k < n → pass k ≡ true))
 
-  pub reached_end : (g : Bool) (n : ℕ) → Decides g (Reached g n n)
-  reached_end g n = (λ e. inr (e, λ k h l. absurd (omega arith)), elim [ inl w ↦ absurd (omega (arith, w.1, w.2)) | inr q ↦ q.0 ])
-
   reached_opens : (g : Bool) (n i : ℕ) → i < n → Opens (Reached g n) i
   unfolding Opens
   reached_opens g n i lt = (
