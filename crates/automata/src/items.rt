@@ -2,7 +2,7 @@
 use crate::nodes::CoreSet;
 
 // An item that is still to be worked on, on behalf of its source: 0 for the start, else a state's number.
-#[derive(Clone, Copy, PartialEq, Eq, Debug)]
+#[derive(Clone, Copy, PartialEq, Eq, Debug, Default)]
 pub struct Item {
     pub source: u32,
     pub new: CoreSet,
@@ -12,7 +12,7 @@ pub struct Item {
 
 // A state of the automaton; states are numbered from 1. Bit j of `marks` is mark set j, bit s of `on`
 // and `off` is signal s.
-#[derive(Clone, Copy, PartialEq, Eq, Debug)]
+#[derive(Clone, Copy, PartialEq, Eq, Debug, Default)]
 pub struct State {
     pub old: CoreSet,
     pub next: CoreSet,
@@ -22,7 +22,7 @@ pub struct State {
 }
 
 // An arc from a state, or from the start at 0, to a state.
-#[derive(Clone, Copy, PartialEq, Eq, Debug)]
+#[derive(Clone, Copy, PartialEq, Eq, Debug, Default)]
 pub struct Arc {
     pub from: u32,
     pub to: u32,

@@ -44,7 +44,7 @@ impl PartialEq for CoreNode {
 }
 
 // A set of core numbers: number k is in it when bit k is on.
-#[derive(Clone, Copy, PartialEq, Eq, Debug)]
+#[derive(Clone, Copy, PartialEq, Eq, Debug, Default)]
 pub struct CoreSet {
     pub bits: u64,
 }

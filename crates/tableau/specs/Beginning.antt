@@ -9,6 +9,7 @@ use Rattle.coreform.specs.Forms.{form_at}
 use Rattle.coreform.specs.declared.form.FormFault.TheVariants.{NotInBook, TooManyNodes}
 use Rattle.rules.specs.declared.node.Node.{Node}
 use Rattle.rules.specs.declared.node.Place.{Place}
+use Rattle.tableau.specs.declared.limits.TheConstants.{MOST_CORES, MOST_UNTILS}
 use Rattle.tableau.specs.Stepping.{Standing, standing}
 use Rattle.tableau.specs.declared.fault.BeginFault.{BeginFault}
 use Rattle.tableau.specs.declared.fault.BeginFault.TheVariants.{Form, TooManyUntils, Short}
@@ -29,12 +30,12 @@ short_for n sheet pending =
     cond (nat_lt (length sheet) n) (Some (Short (record { list = Sheet; needed = n })))
     (cond (nat_lt (length pending) 1) (Some (Short (record { list = Pending; needed = 1 }))) None)
 
--- the refusal that stands: the place, then the nodes, then the untils, then the lists
+-- the refusal that stands: the place, then the nodes (over 64), then the untils (over 16), then the lists
 abbrev pub begin_fault : List Node → Place → List CoreNode → List Item → Option BeginFault
 begin_fault book place sheet pending =
     cond (nat_lt place.index (length book))
-    (cond (nat_le (cores (form_at book place)) 64)
-    (cond (nat_le (untils (form_at book place)) 16) (short_for (cores (form_at book place)) sheet pending) (Some (TooManyUntils (untils (form_at book place)))))
+    (cond (nat_le (cores (form_at book place)) MOST_CORES)
+    (cond (nat_le (untils (form_at book place)) MOST_UNTILS) (short_for (cores (form_at book place)) sheet pending) (Some (TooManyUntils (untils (form_at book place)))))
     (Some (Form TooManyNodes)))
     (Some (Form (NotInBook place)))
 

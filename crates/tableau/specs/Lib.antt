@@ -5,4 +5,5 @@ pub mod Plans
 pub mod Refusals
 pub mod Rooms
 pub mod Stepping
+pub mod Texts
 pub mod Walks

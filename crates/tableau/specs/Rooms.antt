@@ -1,5 +1,6 @@
 -- Counts of what is in use, and the room there is.
 use Rattle.std.specs.Prelude.{◌+◌, ◌-◌, ◌≤◌, cond, length, Some, None, Option, nat_lt}
+use Rattle.tableau.specs.declared.limits.TheConstants.{MOST_STEPS, MOST_STATES, MOST_ARCS, MOST_PENDING}
 use Rattle.tableau.specs.Plans.{new_states, new_arcs, new_items}
 use Rattle.tableau.specs.declared.plans.Plan.{Plan}
 use Rattle.tableau.specs.declared.rooms.Counts.{Counts}
@@ -16,19 +17,19 @@ counts_with p c = record {
   pending = c.pending - 1 + length (new_items p);
 }
 
--- the first of the four that there would be too much of
+-- the first of the four that there would be too much of: over 4294967295 steps, or more of a list than there is room for
 abbrev pub lack_of : Plan → Counts → Space → Option Lack
 lack_of p c room =
-    cond (nat_lt 4294967295 (c.steps + 1)) (Some Steps)
+    cond (nat_lt MOST_STEPS (c.steps + 1)) (Some Steps)
     (cond (nat_lt room.states (c.states + length (new_states p))) (Some States)
     (cond (nat_lt room.arcs (c.arcs + length (new_arcs p))) (Some Arcs)
     (cond (nat_lt room.pending (c.pending - 1 + length (new_items p))) (Some Pending) None)))
 
--- the counts are within the room, and the room within what a translation may use
+-- the counts are within the room, and the room within what a translation may use: 1023 states, 8191 arcs and 1024 pending items
 pub record Within (c : Counts) (room : Space) : Type 0 where
   pub states : c.states ≤ room.states
   pub arcs : c.arcs ≤ room.arcs
   pub pending : c.pending ≤ room.pending
-  pub few_states : room.states ≤ 1023
-  pub few_arcs : room.arcs ≤ 8191
-  pub few_pending : room.pending ≤ 1024
+  pub few_states : room.states ≤ MOST_STATES
+  pub few_arcs : room.arcs ≤ MOST_ARCS
+  pub few_pending : room.pending ≤ MOST_PENDING

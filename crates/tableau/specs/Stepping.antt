@@ -6,6 +6,7 @@ use Rattle.automata.specs.declared.items.Arc.{Arc}
 use Rattle.automata.specs.declared.items.Item.{Item}
 use Rattle.automata.specs.declared.items.State.{State}
 use Rattle.automata.specs.declared.nodes.CoreNode.{CoreNode}
+use Rattle.tableau.specs.declared.limits.TheConstants.{MOST_STEPS, MOST_STATES, MOST_ARCS, MOST_PENDING}
 use Rattle.tableau.specs.declared.translation.Finished.{Finished as FinishedT}
 use Rattle.tableau.specs.declared.fault.LentList.TheVariants.{Sheet, States, Arcs, Pending}
 use Rattle.tableau.specs.declared.translation.Lack.{Lack}
@@ -58,13 +59,14 @@ config s l = record {
 abbrev pub standing_at : Standing → Config → Standing
 standing_at s c = record { cores = s.cores; sets = s.sets; steps = c.steps; states = length c.states; arcs = length c.arcs; pending = length c.pending }
 
--- what there may be: a list's length, and no more than a translation may use of it
+-- what there may be: a list's length, and no more than a translation may use of it, which is
+-- 4294967295 steps, 1023 states, 8191 arcs and 1024 pending items
 abbrev pub room_of : Lists → Room
 room_of l = record {
-  steps = 4294967295;
-  states = min 1023 (length l.states);
-  arcs = min 8191 (length l.arcs);
-  pending = min 1024 (length l.pending);
+  steps = MOST_STEPS;
+  states = min MOST_STATES (length l.states);
+  arcs = min MOST_ARCS (length l.arcs);
+  pending = min MOST_PENDING (length l.pending);
 }
 
 -- the defined steps from what the lists hold, as many as are allowed

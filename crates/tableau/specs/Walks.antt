@@ -5,6 +5,7 @@ use Rattle.automata.specs.declared.items.Arc.{Arc}
 use Rattle.automata.specs.declared.items.Item.{Item}
 use Rattle.automata.specs.declared.items.State.{State}
 use Rattle.automata.specs.declared.nodes.CoreNode.{CoreNode}
+use Rattle.tableau.specs.declared.limits.TheConstants.{MOST_STEPS, MOST_STATES, MOST_ARCS, MOST_PENDING}
 use Rattle.tableau.specs.Rooms.{Within}
 use Rattle.tableau.specs.Stepping.{lacking_of}
 use Rattle.tableau.specs.declared.rooms.Counts.{Counts}
@@ -25,11 +26,11 @@ config_of c ss xs ps = record {
 
 -- how many entries of the lists may be in use
 abbrev pub space_of : List State → List Arc → List Item → Space
-space_of ss xs ps = record { states = min 1023 (length ss); arcs = min 8191 (length xs); pending = min 1024 (length ps) }
+space_of ss xs ps = record { states = min MOST_STATES (length ss); arcs = min MOST_ARCS (length xs); pending = min MOST_PENDING (length ps) }
 
 -- the same with the most steps that there may be
 abbrev pub room_in : Space → Room
-room_in s = record { steps = 4294967295; states = s.states; arcs = s.arcs; pending = s.pending }
+room_in s = record { steps = MOST_STEPS; states = s.states; arcs = s.arcs; pending = s.pending }
 
 -- the answer that stands for an outcome
 abbrev pub answer_of : Outcome → Progressed

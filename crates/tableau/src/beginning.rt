@@ -5,17 +5,13 @@ ghost use Rattle.tableau.specs.Beginning.{first_item, begins, Begins};
 
 use crate::fault::{BeginFault, LentList, ShortFault};
 use crate::gathers::count_untils;
+use crate::limits::MOST_UNTILS;
 use crate::translation::Running;
 use automata::items::Item;
 use automata::nodes::{CoreNode, CoreSet};
 use coreform::form::forming::core_form;
 use rules::book::Book;
 use rules::node::Place;
-
-// How many untils a core form may have.
-const MOST_UNTILS: u8 = 16;
-
-const NONE: CoreSet = CoreSet { bits: 0 };
 
 // The item of the start: the rule is still to be worked on.
 fn first_item(root: u8) -> Item
@@ -26,8 +22,8 @@ fn first_item(root: u8) -> Item
     Item {
         source: 0,
         new,
-        old: NONE,
-        next: NONE,
+        old: CoreSet::default(),
+        next: CoreSet::default(),
     }
 }
 

@@ -5,6 +5,7 @@ pub mod beginning;
 pub mod fault;
 pub(crate) mod finds;
 pub(crate) mod gathers;
+pub mod limits;
 pub(crate) mod plans;
 pub(crate) mod rooms;
 pub(crate) mod sets;
@@ -17,9 +18,10 @@ pub(crate) mod writes;
 #[cfg(test)]
 mod tests {
     use crate::stepping::step;
-    use crate::translation::{Finished, Progress, Running, StepRefused};
+    use crate::translation::{Finished, Lack, Progress, Running, StepRefused};
     use automata::items::{Arc, Item, State};
     use automata::nodes::{CoreNode, CoreSet};
+    use std::alloc::AllocError;
 
     fn set_of(bits: u64) -> CoreSet {
         CoreSet { bits }
@@ -27,20 +29,8 @@ mod tests {
 
     fn first_item() -> Item {
         Item {
-            source: 0,
             new: set_of(1),
-            old: set_of(0),
-            next: set_of(0),
-        }
-    }
-
-    fn no_state() -> State {
-        State {
-            old: set_of(0),
-            next: set_of(0),
-            marks: 0,
-            on: 0,
-            off: 0,
+            ..Item::default()
         }
     }
 
@@ -127,7 +117,7 @@ mod tests {
     #[test]
     fn one_literal(rt: HostRuntime) {
         let sheet = [CoreNode::On(5)];
-        let mut states = [no_state(); 3];
+        let mut states = [State::default(); 3];
         let mut arcs = [Arc { from: 9, to: 9 }; 4];
         let mut pending = [first_item(); 1];
         assert_eq!(rt;
@@ -135,7 +125,7 @@ mod tests {
             (0, (4, 2, 3))
         );
         assert_eq!(rt; states[0], state(1, 0, 0, 32));
-        assert_eq!(rt; states[1], no_state());
+        assert_eq!(rt; states[1], State::default());
         assert_eq!(rt; arcs[0], Arc { from: 0, to: 1 });
         assert_eq!(rt; arcs[1], Arc { from: 1, to: 2 });
         assert_eq!(rt; arcs[2], Arc { from: 2, to: 2 });
@@ -145,7 +135,7 @@ mod tests {
     #[test]
     fn allowances_and_room(rt: HostRuntime) {
         let sheet = [CoreNode::On(5)];
-        let mut states = [no_state(); 1];
+        let mut states = [State::default(); 1];
         let mut arcs = [Arc { from: 9, to: 9 }; 4];
         let mut pending = [first_item(); 1];
         assert_eq!(rt;
@@ -165,7 +155,7 @@ mod tests {
 
     #[test]
     fn short_lists(rt: HostRuntime) {
-        let mut states = [no_state(); 1];
+        let mut states = [State::default(); 1];
         let mut arcs = [Arc { from: 9, to: 9 }; 4];
         let mut pending = [first_item(); 1];
         assert_eq!(rt;
@@ -199,7 +189,7 @@ mod tests {
     #[test]
     fn one_until(rt: HostRuntime) {
         let sheet = [CoreNode::On(0), CoreNode::On(1), CoreNode::Until(0, 1)];
-        let mut states = [no_state(); 9];
+        let mut states = [State::default(); 9];
         let mut arcs = [Arc { from: 9, to: 9 }; 20];
         let mut pending = [first_item(); 9];
         pending[0].new = set_of(4);
@@ -208,6 +198,16 @@ mod tests {
         assert_eq!(rt; states[0], state(5, 4, 0, 1));
         assert_eq!(rt; states[1], state(6, 0, 1, 2));
         assert_eq!(rt; states[2], state(0, 0, 1, 0));
-        assert_eq!(rt; states[3], no_state());
+        assert_eq!(rt; states[3], State::default());
+    }
+
+    #[test]
+    fn lacks(rt: HostRuntime) -> Result<(), AllocError> {
+        let heap = rt.alloc();
+        assert_eq!(rt; format!(in heap; "{}", Lack::Steps)?.as_str(), "steps");
+        assert_eq!(rt; format!(in heap; "{}", Lack::States)?.as_str(), "states");
+        assert_eq!(rt; format!(in heap; "{}", Lack::Arcs)?.as_str(), "arcs");
+        assert_eq!(rt; format!(in heap; "{}", Lack::Pending)?.as_str(), "pending");
+        Ok(())
     }
 }

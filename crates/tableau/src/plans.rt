@@ -2,6 +2,7 @@
 ghost use Rattle.std.specs.Prelude.{◌≡◌, ◌<◌, ◌≤◌, length};
 ghost use Rattle.automata.specs.Sets.{lowest as lowest_of};
 ghost use Rattle.automata.specs.Steps.{drops as is_dropped, item as item_of};
+ghost use Rattle.tableau.specs.declared.limits.TheConstants.{MOST_STATES};
 ghost use Rattle.tableau.specs.Nodes.{Sound};
 ghost use Rattle.tableau.specs.Plans.{split_plan, taken_plan, join_plan, settle_plan, planned};
 
@@ -119,7 +120,7 @@ fn plan_join(count: usize, arc: Arc, arcs: &[Arc]) -> Plan
 
 // New is empty: a state has this Old and Next, or a new one is made.
 fn plan_settled(sheet: &[CoreNode], states: &[State], arcs: &[Arc], item: Item) -> Plan
-    requires { (length sheet.now ≤ 64) × (length states.now ≤ 1023) }
+    requires { (length sheet.now ≤ 64) × (length states.now ≤ MOST_STATES) }
     ensures { result ≡ settle_plan sheet.now states.now arcs.now item }
 {
     let before = states_before(states, item.old, item.next);
@@ -134,13 +135,12 @@ fn plan_settled(sheet: &[CoreNode], states: &[State], arcs: &[Arc], item: Item) 
         )
     } else {
         let to = states.len() as u32 + 1;
-        let empty = CoreSet { bits: 0 };
         let made = state_of(sheet, item.old, item.next);
         let onward = Item {
             source: to,
             new: item.next,
-            old: empty,
-            next: empty,
+            old: CoreSet::default(),
+            next: CoreSet::default(),
         };
         Plan::Make(
             made,
@@ -155,7 +155,7 @@ fn plan_settled(sheet: &[CoreNode], states: &[State], arcs: &[Arc], item: Item) 
 
 // The plan for the item that was put in last, by the states and arcs there are.
 pub(crate) fn plan_for(sheet: &[CoreNode], states: &[State], arcs: &[Arc], item: Item) -> Plan
-    requires { (length sheet.now ≤ 64) × (length states.now ≤ 1023) }
+    requires { (length sheet.now ≤ 64) × (length states.now ≤ MOST_STATES) }
     ensures { result ≡ planned sheet.now states.now arcs.now item }
 {
     if item.new.bits == 0 {

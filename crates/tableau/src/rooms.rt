@@ -3,6 +3,7 @@ ghost use Rattle.std.specs.Prelude.{◌≡◌, ◌<◌, ◌≤◌, length};
 ghost use Rattle.tableau.specs.Plans.{new_states, new_arcs, new_items};
 ghost use Rattle.tableau.specs.Rooms.{lack_of, Within};
 
+use crate::limits::MOST_STEPS;
 use crate::plans::Plan;
 use crate::translation::Lack;
 
@@ -57,7 +58,7 @@ pub(crate) fn lacking(plan: Plan, counts: Counts, space: Space) -> Option<Lack>
     requires { (Within counts space) × (0 < counts.pending) }
     ensures { result ≡ lack_of plan counts space }
 {
-    if counts.steps == u32::MAX {
+    if counts.steps == MOST_STEPS {
         Some(Lack::Steps)
     } else if counts.states + new_states(plan) > space.states {
         Some(Lack::States)

@@ -1,5 +1,6 @@
 // The steps of a translation.
 ghost use Rattle.std.specs.Prelude.{◌≡◌, ◌≤◌};
+ghost use Rattle.tableau.specs.declared.limits.TheConstants.{MOST_CORES, MOST_STATES, MOST_ARCS, MOST_PENDING};
 ghost use Rattle.tableau.specs.Ends.{standing_of, walk_told};
 ghost use Rattle.tableau.specs.Stepping.{lists, standing, short_list, progress_told, told, Steps};
 ghost use Rattle.tableau.specs.Walks.{Ended};
@@ -48,8 +49,8 @@ fn short(
 
 // A translation that goes on from these counts.
 fn resumed(cores: u8, sets: u8, counts: Counts) -> Running
-    requires cores { cores ≤ 64 }
-    requires few { (counts.states ≤ 1023) × ((counts.arcs ≤ 8191) × (counts.pending ≤ 1024)) }
+    requires cores { cores ≤ MOST_CORES }
+    requires few { (counts.states ≤ MOST_STATES) × ((counts.arcs ≤ MOST_ARCS) × (counts.pending ≤ MOST_PENDING)) }
     ensures { standing result ≡ standing_of cores sets counts }
 {
     Running {
@@ -64,8 +65,8 @@ fn resumed(cores: u8, sets: u8, counts: Counts) -> Running
 
 // Where the steps have come to.
 fn progress(cores: u8, sets: u8, walk: Walk) -> Progress
-    requires cores { cores ≤ 64 }
-    requires few { (walk.counts.states ≤ 1023) × ((walk.counts.arcs ≤ 8191) × (walk.counts.pending ≤ 1024)) }
+    requires cores { cores ≤ MOST_CORES }
+    requires few { (walk.counts.states ≤ MOST_STATES) × ((walk.counts.arcs ≤ MOST_ARCS) × (walk.counts.pending ≤ MOST_PENDING)) }
     requires ended { Ended walk.outcome walk.counts }
     ensures { progress_told result ≡ walk_told cores sets walk }
 {

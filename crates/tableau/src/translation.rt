@@ -1,7 +1,10 @@
 // A translation: how far it has come, and what of each lent list is in use.
-ghost use Rattle.std.specs.Prelude.{◌≤◌};
+ghost use Rattle.std.specs.Prelude.{◌≤◌, Some};
+ghost use Rattle.tableau.specs.declared.limits.TheConstants.{MOST_CORES, MOST_STATES, MOST_ARCS, MOST_PENDING};
+ghost use Rattle.tableau.specs.Texts.{lack_text};
 
 use crate::fault::ShortFault;
+use std::fmt;
 
 pub mod ended;
 pub mod underway;
@@ -15,10 +18,10 @@ pub struct Running {
     pub(crate) states: u16,
     pub(crate) arcs: u16,
     pub(crate) pending: u16,
-    ghost few_cores: { cores ≤ 64 },
-    ghost few_states: { states ≤ 1023 },
-    ghost few_arcs: { arcs ≤ 8191 },
-    ghost few_pending: { pending ≤ 1024 },
+    ghost few_cores: { cores ≤ MOST_CORES },
+    ghost few_states: { states ≤ MOST_STATES },
+    ghost few_arcs: { arcs ≤ MOST_ARCS },
+    ghost few_pending: { pending ≤ MOST_PENDING },
 }
 
 // One whose automaton is made.
@@ -29,18 +32,31 @@ pub struct Finished {
     pub(crate) steps: u32,
     pub(crate) states: u16,
     pub(crate) arcs: u16,
-    ghost few_cores: { cores ≤ 64 },
-    ghost few_states: { states ≤ 1023 },
-    ghost few_arcs: { arcs ≤ 8191 },
+    ghost few_cores: { cores ≤ MOST_CORES },
+    ghost few_states: { states ≤ MOST_STATES },
+    ghost few_arcs: { arcs ≤ MOST_ARCS },
 }
 
-// What there is no room for.
+/// What there is no room for: the first of these four. It is printed as `steps`, `states`, `arcs` or `pending`.
 #[derive(Clone, Copy, PartialEq, Eq, Debug)]
 pub enum Lack {
     Steps,
     States,
     Arcs,
     Pending,
+}
+
+impl fmt::Display for Lack {
+    ghost output = { λ lack. Some (lack_text lack) };
+
+    fn fmt<W: fmt::Write>(&self, f: &mut fmt::Formatter<W>) -> fmt::Result {
+        match self {
+            Lack::Steps => write!(f, "steps"),
+            Lack::States => write!(f, "states"),
+            Lack::Arcs => write!(f, "arcs"),
+            Lack::Pending => write!(f, "pending"),
+        }
+    }
 }
 
 // What a call of step comes to.

@@ -3,6 +3,7 @@ ghost use Rattle.std.specs.Prelude.{◌≡◌, ◌<◌, ◌≤◌, length};
 ghost use Rattle.tableau.specs.Rooms.{Within};
 ghost use Rattle.tableau.specs.Walks.{space_of, spent_at, Turned, Walked};
 
+use crate::limits::{MOST_ARCS, MOST_PENDING, MOST_STATES};
 use crate::plans::plan_for;
 use crate::rooms::{Counts, Space, lacking};
 use crate::translation::Lack;
@@ -27,9 +28,9 @@ fn space_in(states: &[State], arcs: &[Arc], pending: &[Item]) -> Space
     ensures { result ≡ space_of states.now arcs.now pending.now }
 {
     Space {
-        states: states.len().min(1023),
-        arcs: arcs.len().min(8191),
-        pending: pending.len().min(1024),
+        states: states.len().min(MOST_STATES),
+        arcs: arcs.len().min(MOST_ARCS),
+        pending: pending.len().min(MOST_PENDING),
     }
 }
 

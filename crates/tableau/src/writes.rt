@@ -1,5 +1,6 @@
 // Writing what a plan adds.
 ghost use Rattle.std.specs.Prelude.{◌≡◌, ◌+◌, ◌-◌, ◌<◌, ◌≤◌, length};
+ghost use Rattle.tableau.specs.declared.limits.TheConstants.{MOST_STEPS};
 ghost use Rattle.tableau.specs.Plans.{new_states, new_arcs, new_items, states_with, arcs_with, items_with};
 ghost use Rattle.tableau.specs.Rooms.{counts_with};
 
@@ -71,7 +72,7 @@ pub(crate) fn write(
     arcs: &mut [Arc],
     pending: &mut [Item],
 ) -> Counts
-    requires some { (0 < counts.pending) × (counts.steps < 4294967295) }
+    requires some { (0 < counts.pending) × (counts.steps < MOST_STEPS) }
     requires states { counts.states + length (new_states plan) ≤ length states.old }
     requires arcs { counts.arcs + length (new_arcs plan) ≤ length arcs.old }
     requires pending { counts.pending - 1 + length (new_items plan) ≤ length pending.old }
