@@ -73,18 +73,10 @@ fn verdicts_of(heap: Global, line: &str) -> Result<Verdicts, CaseFault> {
 // Runs the case of a line, says where it is not as expected, and answers whether it is.
 fn run_line(rt: &HostRuntime, line: &str) -> anyhow::Result<bool> {
     match verdicts_of(rt.alloc(), line) {
-        Ok(
-            Verdicts {
-                expected,
-                packed,
-                edges,
-            },
-        ) => {
-            if packed == expected && edges == expected {
-                return Ok(true);
-            }
-            println!(rt; "{line}: packed says {packed}, edges say {edges}")?;
-        }
+        Ok(told) if told.packed == told.expected && told.edges == told.expected => return Ok(true),
+        Ok(Verdicts { packed, edges, .. }) => println!(rt;
+            "{line}: packed says {packed}, edges say {edges}"
+        )?,
         Err(fault) => println!(rt; "{line}: {fault}")?,
     }
     Ok(false)
