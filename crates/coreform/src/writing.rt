@@ -3,7 +3,6 @@ ghost use Rattle.std.specs.Prelude.{◌≡◌, ℕ, ◌<◌, ◌≤◌, length, 
 ghost use Rattle.automata.specs.Cores.{core_of};
 ghost use Rattle.coreform.specs.Recipes.{joined, node_over};
 ghost use Rattle.coreform.specs.Writing.{Known, Writes};
-ghost use Rattle.rules.specs.Books.{entries};
 ghost use Rattle.semantics.specs.Rules.{rule_at};
 
 use crate::cookbook::recipe_of;
@@ -56,18 +55,16 @@ pub(crate) fn write(
     place: Place,
     polarity: bool,
 ) -> u8
-    requires entered { place.index < length (entries book.now) }
-    requires known { Known (entries book.now) draft.old numbers.old }
-    ensures writes { Writes (core_of (rule_at (entries book.now) place.index) polarity) draft.old result draft.new }
-    ensures known { Known (entries book.now) draft.new numbers.new }
+    requires entered { place.index < length book.now }
+    requires known { Known book.now draft.old numbers.old }
+    ensures writes { Writes (core_of (rule_at book.now place.index) polarity) draft.old result draft.new }
+    ensures known { Known book.now draft.new numbers.new }
 {
+    let nodes = book.nodes();
     if let Some(number) = numbers.get(polarity, place) {
         return number;
     }
-    let Some(node) = book.get(place) else {
-        return 0;
-    };
-    let recipe = recipe_of(node, polarity);
+    let recipe = recipe_of(nodes[place.index as usize], polarity);
     let mut made = [0u8; 7];
     for at in 0..recipe.count {
         let step = recipe.steps[at];

@@ -1,6 +1,5 @@
 // The verdict on one recording.
 ghost use Rattle.std.specs.Prelude.{IfOk};
-ghost use Rattle.rules.specs.Books.{entries};
 ghost use Rattle.linecheck.specs.Reports.{Passes, Reports, check_of, lasso_of};
 
 use crate::fault::NoVerdict;
@@ -38,7 +37,7 @@ fn judge_recording<R: Recording>(
     recording: &R,
     kind: Kind,
 ) -> Result<Judged, NoVerdict>
-    ensures { IfOk result (λ told. Reports (entries book.now) place (R.meaning recording.now) told) }
+    ensures { IfOk result (λ told. Reports book.now place (R.meaning recording.now) told) }
 {
     let scans = recording.count();
     let mut work = vec![in heap; 0; WORDS_PER_SCAN * scans]?;
@@ -59,7 +58,7 @@ pub(crate) fn verdict(
     recorded: &Recorded,
 ) -> Result<Judged, NoVerdict>
     ensures passes { Passes (check_of recorded.now) result }
-    ensures verdict { IfOk result (λ told. Reports (entries book.now) place (lasso_of recorded.now) told) }
+    ensures verdict { IfOk result (λ told. Reports book.now place (lasso_of recorded.now) told) }
 {
     match recorded {
         Recorded::Packed { words, loop_start } => {

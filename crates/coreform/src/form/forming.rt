@@ -1,7 +1,6 @@
 // Making a core form, and asking for its parts.
 ghost use Rattle.std.specs.Prelude.{◌≡◌};
 ghost use Rattle.coreform.specs.Forms.{nodes_of, shown, formed, form_number};
-ghost use Rattle.rules.specs.Books.{entries};
 
 use crate::draft::Draft;
 use crate::form::{CoreForm, FormFault};
@@ -41,7 +40,7 @@ impl CoreForm {
 
 // The core form of the rule at a place.
 pub fn core_form(book: &Book, place: Place) -> Result<CoreForm, FormFault>
-    ensures { shown result ≡ formed (entries book.now) place }
+    ensures { shown result ≡ formed book.now place }
 {
     if place.index as usize >= book.len() {
         return Err(FormFault::NotInBook(place));

@@ -13,9 +13,8 @@ use Rattle.coreform.specs.declared.recipe.Step.TheVariants.{Write}
 use Rattle.coreform.proofs.Cooking.{Cooked, cook_starts, cook_more, stepped_puts, node_same, known_grows, drafted_grows}
 use Rattle.coreform.proofs.Memory.{writes_again, cook_ends, stands_written, known_more}
 use Rattle.coreform.proofs.Right.{writes_lower}
-use Rattle.rules.specs.Books.{entries}
 use Rattle.rules.specs.Tables.{fits_at}
-use Rattle.rules.proofs.Laws.{book_few, book_ordered, node_there, none_there}
+use Rattle.rules.specs.declared.node.Node.TheVariants.{True}
 use Rattle.semantics.specs.Rules.{rule_at}
 use Rattle.semantics.proofs.Places.{rule_opens}
 use Rattle.coreform.proofs.writing.+write.Goals as goal
@@ -36,21 +35,21 @@ seven (suc (suc (suc (suc (suc (suc zero)))))) = refl
 seven (suc (suc (suc (suc (suc (suc (suc i))))))) = refl
 
 pub loop-at-init : goal.loop-at-init
-loop-at-init t c = (cook_starts (rule_at (entries c.args.book.now)) c.recipe_of-recipe.result.steps c.args.draft.now _ seven, c.requires.known, refl)
+loop-at-init t c = (cook_starts (rule_at c.args.book.now) c.recipe_of-recipe.result.steps c.args.draft.now _ seven, c.requires.known, refl)
 
 pub write-requires : goal.write-requires
 write-requires t c =
     let b = c.args.book.now in
     let k = c.args.place.index in
     let here = c.requires.entered in
-    let node = c.in-Some-get.node in
+    let node = get_or c.nodes-nodes.result.now k True in
     let steps = c.recipe_of-recipe.result.steps in
     let count = c.recipe_of-recipe.result.count in
     let few = c.recipe_of-recipe.result.few in
     let seven_steps = c.recipe_of-recipe.result.long in
     let at = c.loop-at.at in
-    let is = node_there (entries b) k node here c.in-Some-get.ensures in
-    let fits = subst (λ n. fits_at n k ≡ true) (sym is) (book_ordered b k here) in
+    let is : node ≡ get_or b k True = ap (λ ns. get_or ns k True) c.nodes-nodes.ensures.nodes in
+    let fits = subst (λ n. fits_at n k ≡ true) (sym is) (c.nodes-nodes.ensures.sound.ordered k here) in
     let whole = c.recipe_of-recipe.ensures in
     let long : at < length (recipe_of node c.args.polarity) = omega (arith, sym (length-take-le count steps (omega arith)) ∙ ap length whole) in
     let reads = sym (ap (λ ss. get_or ss at no_step) whole) ∙ get_or-take count steps at no_step c.loop-at-test.true ∙ c.in-Write.is in
@@ -60,7 +59,7 @@ write-requires t c =
 
 pub loop-at-preserved : goal.loop-at-preserved
 loop-at-preserved t c =
-    let B = entries c.args.book.now in
+    let B = c.args.book.now in
     let rule = rule_at B in
     let steps = c.recipe_of-recipe.result.steps in
     let few = c.recipe_of-recipe.result.few in
@@ -100,9 +99,9 @@ loop-at-preserved t c =
 
 pub returns-in-Some : goal.returns-in-Some
 returns-in-Some t c =
-    let B = entries c.args.book.now in
+    let B = c.args.book.now in
     let k = c.args.place.index in
-    let few = book_few c.args.book.now in
+    let few = c.nodes-nodes.ensures.sound.few in
     let here = c.requires.entered in
     let small : k < 256 = omega arith in
     record {
@@ -110,22 +109,19 @@ returns-in-Some t c =
       known = c.requires.known;
     }
 
-pub returns-in_default-get : goal.returns-in_default-get
-returns-in_default-get t c = absurd (none_there (entries c.args.book.now) c.args.place.index c.requires.entered c.in_default-get.ensures)
-
 pub returns : goal.returns
 returns t c =
     let b = c.args.book.now in
-    let B = entries b in
+    let B = b in
     let k = c.args.place.index in
     let here = c.requires.entered in
-    let node = c.in-Some-get.node in
+    let node = get_or c.nodes-nodes.result.now k True in
     let steps = c.recipe_of-recipe.result.steps in
     let count = c.recipe_of-recipe.result.count in
     let few = c.recipe_of-recipe.result.few in
     let seven_steps = c.recipe_of-recipe.result.long in
-    let is = node_there B k node here c.in-Some-get.ensures in
-    let opened = rule_opens B (book_ordered b) k node (here, sym is) in
+    let is : node ≡ get_or B k True = ap (λ ns. get_or ns k True) c.nodes-nodes.ensures.nodes in
+    let opened = rule_opens B c.nodes-nodes.ensures.sound.ordered k node (here, sym is) in
     let e : c.loop-at.at ≡ count = omega arith in
     let wrote = cook_ends (rule_at B) steps c.args.draft.now c.loop-at.at count c.loop-at.draft c.loop-at.made node c.args.polarity (rule_at B k) c.loop-at.invariant.0 e c.recipe_of-recipe.ensures (omega arith) opened in
     record {

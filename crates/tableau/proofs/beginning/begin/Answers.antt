@@ -3,7 +3,6 @@ use Rattle.std.proofs.lemmas.Result.{err_from_is_err_and}
 use Rattle.std.proofs.lemmas.Bool.{eqb-true, eqb-false}
 use Rattle.automata.specs.Steps.{untils_below}
 use Rattle.coreform.specs.Forms.{form_at}
-use Rattle.rules.specs.Books.{entries}
 use Rattle.tableau.specs.Beginning.{untils, first_item, begins, refused, begun_at}
 use Rattle.tableau.specs.declared.fault.BeginFault.TheVariants.{Form, TooManyUntils, Short}
 use Rattle.tableau.specs.declared.fault.LentList.TheVariants.{Sheet}
@@ -15,18 +14,18 @@ returns-in_err-form c =
     let p = err_from_is_err_and c.from_residual.result c.from_residual.ensures.1 in
     let fault = c.in_err-form.field-0.0 in
     let is : c.from_residual.result ≡ Err (Form fault) = p.1 ∙ ap Err p.2 in
-    refused (fault_form (entries c.args.book.now) c.args.place c.args.sheet.now c.args.pending.now fault c.in_err-form.ensures) (ap begins is) refl refl
+    refused (fault_form c.args.book.now c.args.place c.args.sheet.now c.args.pending.now fault c.in_err-form.ensures) (ap begins is) refl refl
 
 pub first_item-requires : goal.first_item-requires
 first_item-requires c =
-    let book = entries c.args.book.now in
+    let book = c.args.book.now in
     let h = has_form book c.args.place _ c.in_ok-form.ensures in
     let e = ap (λ w. w.root) h.is in
     omega (arith, h.few, root_inside book c.args.place, c.root.ensures)
 
 pub returns-then-untils-gt-MOST_UNTILS : goal.returns-then-untils-gt-MOST_UNTILS
 returns-then-untils-gt-MOST_UNTILS c =
-    let book = entries c.args.book.now in
+    let book = c.args.book.now in
     let h = has_form book c.args.place _ c.in_ok-form.ensures in
     let nodes = c.nodes-nodes.ensures ∙ ap (λ w. w.sheet) h.is in
     let count : c.count_untils-untils.result ≡ untils (form_at book c.args.place) = c.count_untils-untils.ensures ∙ ap (λ s. untils_below s (length s)) nodes in
@@ -34,7 +33,7 @@ returns-then-untils-gt-MOST_UNTILS c =
 
 pub returns-then-sheet-nodes : goal.returns-then-sheet-nodes
 returns-then-sheet-nodes c =
-    let book = entries c.args.book.now in
+    let book = c.args.book.now in
     let h = has_form book c.args.place _ c.in_ok-form.ensures in
     let nodes = c.nodes-nodes.ensures ∙ ap (λ w. w.sheet) h.is in
     let count : c.count_untils-untils.result ≡ untils (form_at book c.args.place) = c.count_untils-untils.ensures ∙ ap (λ s. untils_below s (length s)) nodes in
@@ -44,7 +43,7 @@ returns-then-sheet-nodes c =
 
 pub returns-then-is_empty : goal.returns-then-is_empty
 returns-then-is_empty c =
-    let book = entries c.args.book.now in
+    let book = c.args.book.now in
     let h = has_form book c.args.place _ c.in_ok-form.ensures in
     let nodes = c.nodes-nodes.ensures ∙ ap (λ w. w.sheet) h.is in
     let count : c.count_untils-untils.result ≡ untils (form_at book c.args.place) = c.count_untils-untils.ensures ∙ ap (λ s. untils_below s (length s)) nodes in
@@ -54,7 +53,7 @@ returns-then-is_empty c =
 
 pub returns : goal.returns
 returns c =
-    let book = entries c.args.book.now in
+    let book = c.args.book.now in
     let place = c.args.place in
     let h = has_form book place _ c.in_ok-form.ensures in
     let nodes = c.nodes-nodes.ensures ∙ ap (λ w. w.sheet) h.is in
