@@ -9,7 +9,7 @@ use Rattle.rules.specs.declared.node.UnaryOp.TheVariants.{Not, Next, Eventually,
 use Rattle.semantics.specs.Lassos.{Lasso, unrolled}
 use Rattle.semantics.specs.Meaning.{bit, UntilAt, WeakUntilAt, Holds}
 use Rattle.semantics.specs.Rules.{Rule, Top, Bottom, Atom, One, Two}
-use Rattle.semantics.proofs.Bits.{bit_lt}
+use Rattle.std.proofs.lemmas.Nat.Bits.{bit_at-lt}
 use Rattle.semantics.proofs.Loops.{wrapped_again}
 use Rattle.automata.specs.Cores.{core_of, ReleasesAt, Satisfied}
 
@@ -272,7 +272,7 @@ module _ (l : Lasso) (inside : l.start < length l.words) where
     };
     to = λ i x. x;
     from = λ i x. x;
-    nto = λ i f. zero_bit (bit (word i) s) (bit_lt (word i) s) f;
+    nto = λ i f. zero_bit (bit (word i) s) (bit_at-lt (word i) s) f;
     nfrom = λ i x y. omega arith;
   }
     where

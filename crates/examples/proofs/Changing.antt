@@ -1,8 +1,14 @@
 -- The edges of the words so far.
-use Rattle.std.proofs.Common.{◌≡◌, ℕ, ◌+◌, ◌<◌, ◌≤◌, cond, leb, List, [], ◌∷◌, ◌++◌, get_or, IfSome, Some, Option, sym, refl, ◌∙◌, subst, arith, below_more}
-use Rattle.std.proofs.lemmas.Bool.{le-leb, lt-leb, cond-true, cond-false}
+use Rattle.std.proofs.Common.{◌≡◌, ℕ, ◌+◌, ◌<◌, ◌≤◌, cond, leb, List, [], ◌∷◌, ◌++◌, get_or, IfSome, Some, None, Option, not, eqb, false, ap, sym, refl, ◌∙◌, subst, arith, below_more}
+use Rattle.std.specs.Option.{option_eq}
+use Rattle.std.proofs.lemmas.Bool.{false≢true, eqb-true, not-false, le-leb, lt-leb, cond-true, cond-false}
 use Rattle.models.specs.declared.edges.Edge.{Edge}
 use Rattle.models.specs.EdgeWords.{word_from, word_at}
+
+-- the last word is this one, where it is no other
+pub last_is : (last : Option ℕ) (w : ℕ) → not (option_eq eqb last (Some w)) ≡ false → last ≡ Some w
+last_is None w e = absurd (false≢true (sym e))
+last_is (Some v) w e = ap Some (eqb-true v w (not-false _ e))
 
 -- the edges say the words below scan i, and from there on the last one
 pub record Sofar (words : List ℕ) (edges : List Edge) (last : Option ℕ) (i : ℕ) : Type 0 where

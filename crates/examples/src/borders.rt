@@ -16,14 +16,8 @@ const NEXT: u8 = 0x12;
 // Reads a rule file into a book, and says what comes of it.
 fn tell_read(rt: &HostRuntime, what: &str, book: &mut Book, file: &[u8]) -> io::Result<()> {
     match read(book, file) {
-        Ok(place) => {
-            let index = place.index;
-            println!(rt; "{what}: the rule at place {index}")
-        }
-        Err(fault) => {
-            let number = fault.number();
-            println!(rt; "{what}: refused {number}")
-        }
+        Ok(place) => println!(rt; "{what}: the rule at place {}", place.index),
+        Err(fault) => println!(rt; "{what}: refused {}", fault.number()),
     }
 }
 
@@ -59,14 +53,12 @@ fn tell_file_sizes(rt: &HostRuntime) -> io::Result<()> {
     let file = file.as_slice();
     tell_read(rt, "a rule file of 0 bytes", &mut Book::new(), &[])?;
     tell_read(rt, "a rule file of 1 byte", &mut Book::new(), &[0])?;
-    if file.len() > 4096 {
-        tell_read(
-            rt,
-            "a rule file of 4096 bytes",
-            &mut Book::new(),
-            &file[0..4096],
-        )?;
-    }
+    tell_read(
+        rt,
+        "a rule file of 4096 bytes",
+        &mut Book::new(),
+        &file[..4096],
+    )?;
     tell_read(rt, "a rule file of 4097 bytes", &mut Book::new(), file)
 }
 
@@ -80,14 +72,17 @@ fn tell_judge(
 ) -> io::Result<()> {
     match judge(book, place, &Packed::new(&[1, 1, 1], 2), work) {
         Ok(holds) => println!(rt; "{what}: {holds}"),
-        Err(JudgeFault::NotInBook(place)) => {
-            let number = JudgeFault::NotInBook(place).number();
-            let index = place.index;
-            println!(rt; "{what}: refused {number}, place {index} is not in the book")
-        }
-        Err(JudgeFault::Short(list, needed)) => {
-            let number = JudgeFault::Short(list, needed).number();
-            println!(rt; "{what}: refused {number}, {needed} words are needed")
+        Err(fault) => {
+            let number = fault.number();
+            match fault {
+                JudgeFault::NotInBook(place) => println!(rt;
+                    "{what}: refused {number}, place {} is not in the book",
+                    place.index
+                ),
+                JudgeFault::Short(_, needed) => println!(rt;
+                    "{what}: refused {number}, {needed} words are needed"
+                ),
+            }
         }
     }
 }

@@ -1,6 +1,10 @@
 // A case: a rule, a recording, and whether the rule holds of it.
-use std::alloc::{AllocError, AllocFailed, Global};
+use judging::fault::JudgeFault;
+use models::fault::RecordingFault;
+use rules::reading::ReadFault;
+use std::alloc::{AllocError, Global};
 use texts::{decimal, hex_word};
+use thiserror::Error;
 
 #[derive(Drop)]
 pub(crate) struct Case {
@@ -11,24 +15,32 @@ pub(crate) struct Case {
 }
 
 // Why a case has no verdict.
-#[derive(Clone, Copy)]
+#[derive(Debug, Drop, Error)]
 pub(crate) enum CaseFault {
-    // the line is no case
+    #[error("no case")]
     NoCase,
     // the rule, the recording or the judge call is refused, under this number
+    #[error("refused {0}")]
     Refused(u8),
-    Memory,
+    #[error("no memory")]
+    Memory(#[from(alloc)] AllocError),
 }
 
-impl From<AllocError> for CaseFault {
-    fn from(_error: AllocError) -> CaseFault {
-        CaseFault::Memory
+impl From<ReadFault<'_>> for CaseFault {
+    fn from(fault: ReadFault<'_>) -> CaseFault {
+        CaseFault::Refused(fault.number())
     }
 }
 
-impl<T: Drop> From<AllocFailed<T>> for CaseFault {
-    fn from(_error: AllocFailed<T>) -> CaseFault {
-        CaseFault::Memory
+impl From<RecordingFault> for CaseFault {
+    fn from(fault: RecordingFault) -> CaseFault {
+        CaseFault::Refused(fault.number())
+    }
+}
+
+impl From<JudgeFault> for CaseFault {
+    fn from(fault: JudgeFault) -> CaseFault {
+        CaseFault::Refused(fault.number())
     }
 }
 
@@ -36,10 +48,7 @@ impl<T: Drop> From<AllocFailed<T>> for CaseFault {
 fn words_of(heap: Global, text: &str) -> Result<Vec<u64>, CaseFault> {
     let mut words = Vec::new(heap);
     for part in text.split_whitespace() {
-        let Some(word) = hex_word(part.as_bytes()) else {
-            return Err(CaseFault::NoCase);
-        };
-        words.push(word)?;
+        words.push(hex_word(part.as_bytes()).ok_or(CaseFault::NoCase)?)?;
     }
     Ok(words)
 }
@@ -48,11 +57,8 @@ fn words_of(heap: Global, text: &str) -> Result<Vec<u64>, CaseFault> {
 fn bytes_of(heap: Global, text: &str) -> Result<Vec<u8>, CaseFault> {
     let words = words_of(heap, text)?;
     let mut bytes = Vec::new(heap);
-    for word in words.iter() {
-        let Ok(byte) = u8::try_from(*word) else {
-            return Err(CaseFault::NoCase);
-        };
-        bytes.push(byte)?;
+    for &word in &words {
+        bytes.push(u8::try_from(word).map_err(|_| CaseFault::NoCase)?)?;
     }
     Ok(bytes)
 }
@@ -67,12 +73,8 @@ fn parts_of(line: &str) -> Option<(&str, &str, &str, &str)> {
 
 // The case of a line: `rule bytes | words, scan by scan | loop start | yes or no`.
 pub(crate) fn parse(heap: Global, line: &str) -> Result<Case, CaseFault> {
-    let Some((rule, words, loop_start, verdict)) = parts_of(line) else {
-        return Err(CaseFault::NoCase);
-    };
-    let Some(loop_start) = decimal(loop_start.as_bytes()) else {
-        return Err(CaseFault::NoCase);
-    };
+    let (rule, words, loop_start, verdict) = parts_of(line).ok_or(CaseFault::NoCase)?;
+    let loop_start = decimal(loop_start.as_bytes()).ok_or(CaseFault::NoCase)?;
     let holds = match verdict {
         "yes" => true,
         "no" => false,

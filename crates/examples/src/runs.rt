@@ -2,7 +2,7 @@
 ghost use Rattle.std.specs.Prelude.{◌≡◌, ℕ, ◌<◌, false, length, IfOk, Some, slice_index};
 ghost use Rattle.models.specs.EdgeWords.{word_at};
 
-use crate::cases::{Case, CaseFault, parse};
+use crate::cases::{CaseFault, parse};
 use judging::judge::judge;
 use judging::truths::WORDS_PER_SCAN;
 use models::edges::{Edge, Edges};
@@ -14,21 +14,12 @@ use rules::reading::read;
 use std::alloc::Global;
 use std::io::{BufRead, BufReader};
 
-// What the two kinds of recording say.
+// What the case expects, and what the two kinds of recording say.
 #[derive(Clone, Copy)]
 struct Verdicts {
+    expected: bool,
     packed: bool,
     edges: bool,
-}
-
-// Whether a word is another than the last one, if there is one.
-fn differs(last: Option<u64>, word: u64) -> bool
-    ensures { result ≡ false → last ≡ Some word }
-{
-    match last {
-        Some(old) => old != word,
-        None => true,
-    }
 }
 
 // An edge at each scan where the word changes.
@@ -37,9 +28,8 @@ fn changes(heap: Global, words: &[u64]) -> Result<Vec<Edge>, CaseFault>
 {
     let mut edges = Vec::new(heap);
     let mut last = None;
-    for (scan, word) in words.iter().enumerate() {
-        let word = *word;
-        if differs(last, word) {
+    for (scan, &word) in words.iter().enumerate() {
+        if last != Some(word) {
             edges.push(Edge { scan, word })?;
             last = Some(word);
         }
@@ -55,28 +45,21 @@ fn holds<R: Recording>(
     recording: &R,
 ) -> Result<bool, CaseFault> {
     let mut work = vec![in heap; 0; WORDS_PER_SCAN * recording.count()]?;
-    match judge(book, place, recording, work.as_mut_slice()) {
-        Ok(holds) => Ok(holds),
-        Err(fault) => Err(CaseFault::Refused(fault.number())),
-    }
+    Ok(judge(book, place, recording, work.as_mut_slice())?)
 }
 
-fn judge_case(heap: Global, case: &Case) -> Result<Verdicts, CaseFault> {
+// The verdicts on the case of a line.
+fn verdicts_of(heap: Global, line: &str) -> Result<Verdicts, CaseFault> {
+    let case = parse(heap, line)?;
     let mut book = Book::new();
-    let place = match read(&mut book, case.rule.as_slice()) {
-        Ok(place) => place,
-        Err(fault) => return Err(CaseFault::Refused(fault.number())),
-    };
+    let place = read(&mut book, case.rule.as_slice())?;
     let words = case.words.as_slice();
     let start = case.loop_start;
-    if let Err(fault) = Packed::check(words, start) {
-        return Err(CaseFault::Refused(fault.number()));
-    }
+    Packed::check(words, start)?;
     let edges = changes(heap, words)?;
-    if let Err(fault) = Edges::check(edges.as_slice(), words.len(), start) {
-        return Err(CaseFault::Refused(fault.number()));
-    }
+    Edges::check(edges.as_slice(), words.len(), start)?;
     Ok(Verdicts {
+        expected: case.holds,
         packed: holds(heap, &book, place, &Packed::new(words, start))?,
         edges: holds(
             heap,
@@ -89,28 +72,12 @@ fn judge_case(heap: Global, case: &Case) -> Result<Verdicts, CaseFault> {
 
 // Runs the case of a line, says where it is not as expected, and answers whether it is.
 fn run_line(rt: &HostRuntime, line: &str) -> anyhow::Result<bool> {
-    let heap = rt.alloc();
-    let case = match parse(heap, line) {
-        Ok(case) => case,
-        Err(fault) => return tell_fault(rt, line, fault),
-    };
-    match judge_case(heap, &case) {
-        Ok(Verdicts { packed, edges }) => {
-            if packed == case.holds && edges == case.holds {
-                return Ok(true);
-            }
-            println!(rt; "{line}: packed says {packed}, edges say {edges}")?;
-            Ok(false)
-        }
-        Err(fault) => tell_fault(rt, line, fault),
-    }
-}
-
-fn tell_fault(rt: &HostRuntime, line: &str, fault: CaseFault) -> anyhow::Result<bool> {
-    match fault {
-        CaseFault::NoCase => println!(rt; "{line}: no case")?,
-        CaseFault::Refused(number) => println!(rt; "{line}: refused {number}")?,
-        CaseFault::Memory => println!(rt; "{line}: no memory")?,
+    match verdicts_of(rt.alloc(), line) {
+        Ok(told) if told.packed == told.expected && told.edges == told.expected => return Ok(true),
+        Ok(Verdicts { packed, edges, .. }) => println!(rt;
+            "{line}: packed says {packed}, edges say {edges}"
+        )?,
+        Err(fault) => println!(rt; "{line}: {fault}")?,
     }
     Ok(false)
 }

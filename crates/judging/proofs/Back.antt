@@ -4,7 +4,7 @@ use Rattle.rules.specs.declared.node.Node.{Node}
 use Rattle.semantics.specs.Lassos.{Lasso, scan_at, following}
 use Rattle.semantics.specs.Solutions.{Solution}
 use Rattle.semantics.proofs.Loops.{wrapped_low, wrapped-suc, wrapped_again}
-use Rattle.semantics.proofs.Sweeps.{Reached, reached_end, reached_back, solution_back, first_sweep}
+use Rattle.semantics.proofs.Sweeps.{Reached, reached_back, solution_back, first_sweep}
 use Rattle.judging.specs.Columns.{hold_on, pass_on}
 use Rattle.judging.specs.Truths.{told}
 use Rattle.judging.specs.Turns.{node_hold, node_pass, lasts_of}
@@ -41,9 +41,6 @@ module _ (node : Node) (l : Lasso) (work : List ℕ) (inside : l.start < length 
       let a : t.hold ≡ hold k = q.holds ∙ (λ i. node_hold node (get_or l.words (e i) 0) (told work (e i)) (told work (f i))) in
       let b : t.pass ≡ pass k = q.passes ∙ (λ i. node_pass node (told work (e i))) in
       λ i. a i || (b i && c)
-
-  pub sweep_starts : (c : Bool) (m : ℕ) → c ≡ lasts_of node → m ≡ n → Decides c (Reached hold pass (lasts_of node) n m)
-  sweep_starts c m e f = subst (λ c. Decides c (Reached hold pass (lasts_of node) n m)) (sym e) (subst (λ m. Decides (lasts_of node) (Reached hold pass (lasts_of node) n m)) (sym f) (reached_end hold pass (lasts_of node) n))
 
   pub sweep_back : (j : ℕ) (t : Turn) (c v : Bool) → 0 < j → j ≤ n → Turns node l work (j - 1) t → v ≡ (t.hold || (t.pass && c))
       → Decides c (Reached hold pass (lasts_of node) n j) → Decides v (Reached hold pass (lasts_of node) n (j - 1))

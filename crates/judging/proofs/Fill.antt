@@ -1,7 +1,7 @@
 -- Filling one column of the work list from the last scan back.
 use Rattle.std.proofs.Common.{◌≡◌, ℕ, suc, ◌-◌, ◌*◌, ◌<◌, ◌≤◌, Bool, true, false, not, ◌&&◌, ◌||◌, ltb, ◌≢◌, List, length, drop, Decides, sym, refl, ap, ◌∙◌, subst, arith}
 use Rattle.std.specs.Bool.{beq}
-use native.Mathlib.Decide.{ℕ_discrete}
+use Rattle.std.proofs.Math.Decide.{ℕ_discrete}
 use Rattle.std.proofs.lemmas.List.{drop-set-lt, length-set}
 use Rattle.std.proofs.lemmas.Bool.{false≢true, ltb-true, and_parts, cond_both}
 use Rattle.rules.specs.Tables.{fits_at}
@@ -73,17 +73,6 @@ pub record Filled (node : Node) (l : Lasso) (p : ℕ) (before : List ℕ) (j : �
 module _ (node : Node) (l : Lasso) (inside : l.start < length l.words) (p : ℕ) (few : p < 256) (fits : fits_at node p ≡ true) (before : List ℕ) (enough : 4 * length l.words ≤ length before) where
   abbrev n : ℕ
   n = length l.words
-
-  pub fill_starts : (j : ℕ) (value : Bool) → j ≡ n → Decides value (Solution (hold_on node l before) (pass_on node l before) (lasts_of node) n)
-      → ((k : ℕ) → k < n → told before k p ≡ false) → Filled node l p before j value before
-  fill_starts j value e d z = record {
-    value_is = subst (λ j. Decides value (Solution (hold_on node l before) (pass_on node l before) (lasts_of node) j)) (sym e) d;
-    empty = λ k h. z k (omega arith);
-    column = λ k h h'. absurd (omega arith);
-    others = λ k q h h' ne. refl;
-    rest = refl;
-    long = refl;
-  }
 
   next_inside : (k : ℕ) → k < n → following n l.start k < n
   next_inside k h = cond_both (ltb (suc k) n) (suc k) l.start (λ x. x < n) (λ e. ltb-true (suc k) n e) (λ _. inside)

@@ -1,11 +1,11 @@
 -- A place that is noted at a scan is told there, and nothing else changes.
-use Rattle.std.proofs.Common.{◌≡◌, ℕ, ◌+◌, ◌*◌, ◌^◌, ◌<◌, ◌≤◌, true, false, eqb, ◌≢◌, List, length, get_or, set, sym, ap, ◌∙◌, arith}
-use native.Mathlib.Decide.{ℕ_discrete}
-use lib.Bits.{bit_or}
+use Rattle.std.proofs.Common.{◌≡◌, ℕ, ◌+◌, ◌*◌, ◌^◌, ◌<◌, ◌≤◌, true, false, eqb, ◌≢◌, List, length, get_or, set, sym, ap, ◌∙◌, arith, bit_or}
+use Rattle.std.proofs.Math.Decide.{ℕ_discrete}
 use Rattle.std.proofs.lemmas.List.{get_or-set_same, get_or-set_other}
 use Rattle.std.proofs.lemmas.Bool.{eq-eqb, ne_eqb}
+use Rattle.std.proofs.lemmas.Nat.Bits.{bit_at-zero}
 use Rattle.semantics.specs.Meaning.{bit}
-use Rattle.semantics.proofs.Bits.{no_bits, insert_same, insert_other}
+use Rattle.semantics.proofs.Bits.{insert_same, insert_other}
 use Rattle.judging.specs.Truths.{told, word_of, bit_of}
 
 abbrev pub noted : List ℕ → ℕ → ℕ → List ℕ
@@ -26,7 +26,3 @@ told_else work i p j q h few few' other = ap (λ b. eqb b 1) (elim (ℕ_discrete
       ∙ insert_other (get_or work (word_of i p) 0) (bit_of p) (bit_of q) apart
       ∙ ap (λ x. bit (get_or work x 0) (bit_of q)) (sym e)
 ])
-
--- a list of zeros tells nothing
-pub told_none : (work : List ℕ) (words i q : ℕ) → ((k : ℕ) → k < words → get_or work k 0 ≡ 0) → 4 * i + 4 ≤ words → q < 256 → told work i q ≡ false
-told_none work words i q zeros h few = ne_eqb _ 1 (λ e. let z = ap (λ w. bit w (bit_of q)) (zeros (word_of i q) (omega arith)) ∙ no_bits (bit_of q) in omega arith)

@@ -8,7 +8,7 @@ use Rattle.rules.specs.declared.node.UnaryOp.{UnaryOp}
 use Rattle.rules.specs.declared.node.UnaryOp.TheVariants.{Not, Next, Eventually, Always}
 use Rattle.semantics.specs.Meaning.{UntilAt, WeakUntilAt, UnaryAt, BinaryAt}
 use Rattle.semantics.specs.Solutions.{On, Solution}
-use Rattle.semantics.proofs.Shifts.{until_shift, weak_shift}
+use Rattle.semantics.proofs.Shifts.{not_iff, until_shift, weak_shift}
 use Rattle.semantics.proofs.Sweeps.{until_now, until_opens}
 use Rattle.judging.specs.Columns.{Denied}
 use Rattle.judging.specs.Turns.{unary_hold, unary_pass, unary_denies, binary_hold, binary_pass, binary_lasts, binary_denies}
@@ -19,9 +19,6 @@ until_like A B A' B' a b i = until_shift A B A' B' i i (λ k. a (i + k)) (λ k. 
 
 weak_like : (A B A' B' : ℕ → Type 0) → ((k : ℕ) → A k ↔ A' k) → ((k : ℕ) → B k ↔ B' k) → (i : ℕ) → WeakUntilAt A B i ↔ WeakUntilAt A' B' i
 weak_like A B A' B' a b i = weak_shift A B A' B' i i (λ k. a (i + k)) (λ k. b (i + k))
-
-denial : {A B : Type 0} → A ↔ B → (¬ A) ↔ (¬ B)
-denial e = (λ f b. f (e.1 b), λ f a. f (e.0 a))
 
 -- where nothing passes on, a node is true where it holds
 pub plain : (hold : ℕ → Bool) (i : ℕ) {P : Type 0} → Decides (hold i) P → Solution hold (λ _. false) false i ↔ P
@@ -51,7 +48,7 @@ module _ (A : ℕ → Type 0) (a : ℕ → Bool) (d : (k : ℕ) → Decides (a k
   unary_right Not i = plain (λ k. not (a k)) i (off i)
   unary_right Next i = plain (λ k. a (suc k)) i (d (suc i))
   unary_right Eventually i = until_like (λ _. true ≡ true) (On a) (λ _. Unit {0}) A (λ _. so) d i
-  unary_right Always i = denial (until_like (λ _. true ≡ true) (On (λ k. not (a k))) (λ _. Unit {0}) (λ k. ¬ A k) (λ _. so) off i)
+  unary_right Always i = not_iff (until_like (λ _. true ≡ true) (On (λ k. not (a k))) (λ _. Unit {0}) (λ k. ¬ A k) (λ _. so) off i)
 
 module _ (A B : ℕ → Type 0) (a b : ℕ → Bool) (d : (k : ℕ) → Decides (a k) (A k)) (e : (k : ℕ) → Decides (b k) (B k)) where
   pub binary_right : (op : BinaryOp) (i : ℕ) → Denied (binary_denies op) (Solution (λ k. binary_hold op (a k) (b k)) (λ k. binary_pass op (a k)) (binary_lasts op) i) ↔ BinaryAt op A B i
@@ -61,6 +58,6 @@ module _ (A B : ℕ → Type 0) (a b : ℕ → Bool) (d : (k : ℕ) → Decides 
   binary_right Equivalent i = plain _ i (Decides-or (a i && b i) (not (a i) && not (b i)) (Decides-and (a i) (b i) (d i) (e i)) (Decides-and (not (a i)) (not (b i)) (off A a d i) (off B b e i)))
   binary_right ExclusiveOr i = plain _ i (Decides-or (a i && not (b i)) (not (a i) && b i) (Decides-and (a i) (not (b i)) (d i) (off B b e i)) (Decides-and (not (a i)) (b i) (off A a d i) (e i)))
   binary_right Until i = until_like (On a) (On b) A B d e i
-  binary_right Release i = denial (until_like (On (λ k. not (a k))) (On (λ k. not (b k))) (λ k. ¬ A k) (λ k. ¬ B k) (off A a d) (off B b e) i)
+  binary_right Release i = not_iff (until_like (On (λ k. not (a k))) (On (λ k. not (b k))) (λ k. ¬ A k) (λ k. ¬ B k) (off A a d) (off B b e) i)
   binary_right WeakUntil i = weak_like (On a) (On b) A B d e i
-  binary_right StrongRelease i = denial (weak_like (On (λ k. not (a k))) (On (λ k. not (b k))) (λ k. ¬ A k) (λ k. ¬ B k) (off A a d) (off B b e) i)
+  binary_right StrongRelease i = not_iff (weak_like (On (λ k. not (a k))) (On (λ k. not (b k))) (λ k. ¬ A k) (λ k. ¬ B k) (off A a d) (off B b e) i)

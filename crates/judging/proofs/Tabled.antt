@@ -1,6 +1,6 @@
 -- The work list, place after place.
-use Rattle.std.proofs.Common.{◌≡◌, ℕ, ◌+◌, ◌*◌, ◌<◌, ◌≤◌, Bool, true, false, eqb, ltb, ◌↔◌, List, length, get_or, Decides, sym, refl, ◌∙◌, subst, arith}
-use native.Mathlib.Decide.{ℕ_discrete}
+use Rattle.std.proofs.Common.{◌≡◌, ℕ, ◌+◌, ◌*◌, ◌<◌, ◌≤◌, true, false, eqb, ltb, ◌↔◌, List, length, get_or, Decides, sym, refl, ◌∙◌, subst, arith}
+use Rattle.std.proofs.Math.Decide.{ℕ_discrete}
 use Rattle.std.proofs.lemmas.Bool.{false≢true, eqb-true, eq-eqb, ltb-true, and_parts}
 use Rattle.std.proofs.lemmas.Bool.Decides.{Decides-like}
 use Rattle.rules.specs.Tables.{fits_at, Ordered}
@@ -14,7 +14,6 @@ use Rattle.semantics.proofs.Places.{rule_opens}
 use Rattle.judging.specs.Columns.{Column}
 use Rattle.judging.specs.Tabled.{Tabled}
 use Rattle.judging.specs.Truths.{told, word_of, bit_of}
-use Rattle.judging.proofs.Noted.{told_none}
 use Rattle.judging.proofs.Operators.{plain, unary_right, binary_right}
 
 module _ (book : List Node) (ordered : Ordered book) (few : length book ≤ 256) (l : Lasso) (inside : l.start < length l.words) where
@@ -40,20 +39,6 @@ module _ (book : List Node) (ordered : Ordered book) (few : length book ≤ 256)
   column_right p work t lt i =
       subst (λ r. Column (get_or book p True) l work i ↔ Holds r (unrolled l) i) (sym (rule_opens book ordered p (get_or book p True) (lt, refl)))
       (by_node p work t (omega arith) (get_or book p True) (ordered p lt) i)
-
-  -- nothing is told in a cleared list
-  pub table_starts : (work : List ℕ) → ((k : ℕ) → k < 4 * length l.words → get_or work k 0 ≡ 0) → Tabled book l 0 work
-  table_starts work zeros i q h lt =
-      let off = told_none work (4 * length l.words) i q zeros (omega arith) lt in
-      ((λ e. absurd (false≢true (sym off ∙ e))), λ x. absurd (omega (arith, x.0)))
-
-  -- the column of a place is empty before it is filled
-  pub table_empty : (p : ℕ) (work : List ℕ) → Tabled book l p work → p < 256 → (i : ℕ) → i < length l.words → told work i p ≡ false
-  table_empty p work t lt i h = off (told work i p) (t i p h lt)
-    where
-      off : (b : Bool) → Decides b ((p < p) × Holds (rule_at book p) (unrolled l) i) → b ≡ false
-      off true d = absurd (omega (arith, (d.0 refl).0))
-      off false d = refl
 
   -- one more column
   pub table_more : (p : ℕ) (work work' : List ℕ) → Tabled book l p work → p < length book

@@ -56,6 +56,7 @@ fn first_sweep<R: Recording>(node: Node, recording: &R, work: &[u64]) -> bool
     requires { (fits_at node 256 ≡ true) × (4 * length (R.meaning recording.now).words ≤ length work.now) }
     ensures { Decides result (Solution (hold_on node (R.meaning recording.now) work.now) (pass_on node (R.meaning recording.now) work.now) (lasts_of node) (length (R.meaning recording.now).words)) }
 {
+    // Kept: the new form is no plainer: a sweep carries a value from each scan to the one before it.
     let mut value = lasts(node);
     for scan in (recording.loop_start()..recording.count()).rev() {
         value = turn_at(node, recording, work, scan).before(value);
@@ -74,6 +75,7 @@ pub(crate) fn fill_column<R: Recording>(node: Node, place: Place, recording: &R,
     ensures rest { drop (4 * length (R.meaning recording.now).words) work.new ≡ drop (4 * length (R.meaning recording.now).words) work.old }
 {
     let denied = denies(node);
+    // Kept: the new form is no plainer: a sweep that also writes into the list that it reads.
     let mut value = first_sweep(node, recording, work);
     for scan in (0..recording.count()).rev() {
         value = turn_at(node, recording, work, scan).before(value);

@@ -25,7 +25,10 @@ fn fill_table<R: Recording>(book: &Book, place: Place, recording: &R, work: &mut
     }
 }
 
-// Whether the rule at a place holds of a recording, at its first scan.
+/// Whether the rule at a place holds of a recording, at its first scan. The work list needs 4 words for each
+/// scan. Refused are a place that is not in the book (9), and then a shorter list (11), which is left as it was.
+/// Else word 4 × i + j of the list has afterwards in bit b the truth of place 64 × j + b at scan i, and 0 for
+/// places above the judged one; later words stay. The rule is in `docs/VERDICTS.md`.
 pub fn judge<R: Recording>(
     book: &Book,
     place: Place,

@@ -5,7 +5,8 @@ ghost use Rattle.judging.specs.Truths.{told, word_of, bit_of};
 
 use rules::node::Place;
 
-// How many words of the work list a scan has.
+/// How many words of the work list a scan has: 256 bits, one for each place of a book. The rule is in
+/// `docs/VERDICTS.md`.
 pub const WORDS_PER_SCAN: usize = 4;
 
 // Whether a bit of a word is on.
@@ -41,7 +42,5 @@ pub(crate) fn clear(work: &mut [u64], words: usize)
     ensures cleared { (k : ℕ) → k < words → slice_index work.new k ≡ 0 }
     ensures rest { drop words work.new ≡ drop words work.old }
 {
-    for at in 0..words {
-        work[at] = 0;
-    }
+    work[..words].fill(0);
 }

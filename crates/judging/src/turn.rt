@@ -4,7 +4,8 @@ ghost use Rattle.judging.specs.Turns.{unary_hold, unary_pass, binary_hold, binar
 
 use rules::node::{BinaryOp, Node, UnaryOp};
 
-// A node is true at a scan where it holds there, or where it passes on and is true at the next scan.
+/// What a node says of a scan: it is true there where it holds, or where it passes on and is true at the next
+/// scan. The table is in `docs/VERDICTS.md`.
 #[derive(Clone, Copy)]
 pub struct Turn {
     pub hold: bool,
@@ -80,11 +81,10 @@ pub(crate) fn binary_turn(op: BinaryOp, a: bool, b: bool) -> Turn
 pub(crate) fn lasts(node: Node) -> bool
     ensures { result ≡ lasts_of node }
 {
-    match node {
-        Node::Binary(BinaryOp::WeakUntil, _, _) => true,
-        Node::Binary(BinaryOp::StrongRelease, _, _) => true,
-        _ => false,
-    }
+    matches!(
+        node,
+        Node::Binary(BinaryOp::WeakUntil | BinaryOp::StrongRelease, _, _)
+    )
 }
 
 // Whether a node says the opposite of what its turns say: release, strong release and always are
@@ -92,10 +92,9 @@ pub(crate) fn lasts(node: Node) -> bool
 pub(crate) fn denies(node: Node) -> bool
     ensures { result ≡ denies_of node }
 {
-    match node {
-        Node::Unary(UnaryOp::Always, _) => true,
-        Node::Binary(BinaryOp::Release, _, _) => true,
-        Node::Binary(BinaryOp::StrongRelease, _, _) => true,
-        _ => false,
-    }
+    matches!(
+        node,
+        Node::Unary(UnaryOp::Always, _)
+            | Node::Binary(BinaryOp::Release | BinaryOp::StrongRelease, _, _)
+    )
 }

@@ -1,13 +1,11 @@
 // The verdict on one recording.
 ghost use Rattle.std.specs.Prelude.{IfOk};
-ghost use Rattle.models.specs.PackedWords.{packed_check, of_packed};
-ghost use Rattle.models.specs.EdgeWords.{edges_check, of_edges};
-ghost use Rattle.linecheck.specs.Reports.{Says, Passes, Reports, check_of, lasso_of};
+ghost use Rattle.linecheck.specs.Reports.{Passes, Reports, check_of, lasso_of};
 
 use crate::fault::NoVerdict;
 use crate::text::Recorded;
 use judging::truths::WORDS_PER_SCAN;
-use models::edges::{Edge, Edges};
+use models::edges::Edges;
 use models::packed::Packed;
 use models::recording::Recording;
 use rules::book::Book;
@@ -31,67 +29,28 @@ pub(crate) struct Judged {
     pub holds: bool,
 }
 
-// Whether the rule at a place holds of a recording.
-fn holds<R: Recording>(
+// The verdict on a recording, and what it was judged on.
+fn judge_recording<R: Recording>(
     heap: Global,
     book: &Book,
     place: Place,
     recording: &R,
-) -> Result<bool, NoVerdict>
-    ensures { IfOk result (λ yes. Says book.now place (R.meaning recording.now) yes) }
+    kind: Kind,
+) -> Result<Judged, NoVerdict>
+    ensures { IfOk result (λ told. Reports book.now place (R.meaning recording.now) told) }
 {
-    let needed = WORDS_PER_SCAN * recording.count();
-    let mut work = vec![in heap; 0; needed]?;
+    let scans = recording.count();
+    let mut work = vec![in heap; 0; WORDS_PER_SCAN * scans]?;
     let holds = give_verdict(book, place, recording, work.as_mut_slice())?;
-    Ok(holds)
-}
-
-// The verdict on the words of the scans, once they have passed their check.
-fn judge_packed(
-    heap: Global,
-    book: &Book,
-    place: Place,
-    words: &[u64],
-    loop_start: usize,
-) -> Result<Judged, NoVerdict>
-    ensures passes { Passes (packed_check words.now loop_start) result }
-    ensures verdict { IfOk result (λ told. Reports book.now place (of_packed words.now loop_start) told) }
-{
-    Packed::check(words, loop_start)?;
-    let recording = Packed::new(words, loop_start);
-    let holds = holds(heap, book, place, &recording)?;
     Ok(Judged {
-        kind: Kind::Packed,
-        scans: words.len(),
-        loop_start,
+        kind,
+        scans,
+        loop_start: recording.loop_start(),
         holds,
     })
 }
 
-// The verdict on edges, once they have passed their check.
-fn judge_edges(
-    heap: Global,
-    book: &Book,
-    place: Place,
-    edges: &[Edge],
-    scans: usize,
-    loop_start: usize,
-) -> Result<Judged, NoVerdict>
-    ensures passes { Passes (edges_check edges.now scans loop_start) result }
-    ensures verdict { IfOk result (λ told. Reports book.now place (of_edges edges.now scans loop_start) told) }
-{
-    Edges::check(edges, scans, loop_start)?;
-    let recording = Edges::new(edges, scans, loop_start);
-    let holds = holds(heap, book, place, &recording)?;
-    Ok(Judged {
-        kind: Kind::Edges,
-        scans: recording.count(),
-        loop_start,
-        holds,
-    })
-}
-
-// The verdict on a recording that a text says.
+// The verdict on a recording that a text says, once it has passed the check of its kind.
 pub(crate) fn verdict(
     heap: Global,
     book: &Book,
@@ -102,17 +61,31 @@ pub(crate) fn verdict(
     ensures verdict { IfOk result (λ told. Reports book.now place (lasso_of recorded.now) told) }
 {
     match recorded {
-        Recorded::Packed { words, loop_start } => judge_packed(
-            heap,
-            book,
-            place,
-            words.as_slice(),
-            *loop_start,
-        ),
+        Recorded::Packed { words, loop_start } => {
+            let words = words.as_slice();
+            Packed::check(words, *loop_start)?;
+            judge_recording(
+                heap,
+                book,
+                place,
+                &Packed::new(words, *loop_start),
+                Kind::Packed,
+            )
+        }
         Recorded::Edges {
             edges,
             count,
             loop_start,
-        } => judge_edges(heap, book, place, edges.as_slice(), *count, *loop_start),
+        } => {
+            let edges = edges.as_slice();
+            Edges::check(edges, *count, *loop_start)?;
+            judge_recording(
+                heap,
+                book,
+                place,
+                &Edges::new(edges, *count, *loop_start),
+                Kind::Edges,
+            )
+        }
     }
 }

@@ -65,8 +65,10 @@ fn judge_rule(rt: &HostRuntime, file: &str, recordings: &[String]) -> anyhow::Re
         Ok(Rule { bytes, place }) => {
             let bytes = Counted(bytes, "byte");
             let nodes = Counted(book.len(), "node");
-            let index = place.index;
-            println!(rt; "{file}: {bytes}, {nodes}, the rule at place {index}")?;
+            println!(rt;
+                "{file}: {bytes}, {nodes}, the rule at place {}",
+                place.index
+            )?;
             judge_files(rt, &book, place, recordings)
         }
         Err(cause) => {

@@ -14,23 +14,29 @@ pub(crate) struct Counted(pub usize, pub &'static str);
 
 impl fmt::Display for Counted {
     fn fmt<W: fmt::Write>(&self, f: &mut fmt::Formatter<W>) -> fmt::Result {
-        let count = self.0;
-        let name = self.1;
-        let plural = if count == 1 { "" } else { "s" };
-        write!(f, "{count} {name}{plural}")
+        let plural = if self.0 == 1 { "" } else { "s" };
+        write!(f, "{} {}{plural}", self.0, self.1)
+    }
+}
+
+impl fmt::Display for Kind {
+    fn fmt<W: fmt::Write>(&self, f: &mut fmt::Formatter<W>) -> fmt::Result {
+        match self {
+            Kind::Packed => write!(f, "packed"),
+            Kind::Edges => write!(f, "edges"),
+        }
     }
 }
 
 impl fmt::Display for Judged {
     fn fmt<W: fmt::Write>(&self, f: &mut fmt::Formatter<W>) -> fmt::Result {
-        let kind = match self.kind {
-            Kind::Packed => "packed",
-            Kind::Edges => "edges",
-        };
         let verdict = if self.holds { "holds" } else { "does not hold" };
         let scans = Counted(self.scans, "scan");
-        let loop_start = self.loop_start;
-        write!(f, "{kind}, {scans}, loop start {loop_start}: {verdict}")
+        write!(
+            f,
+            "{}, {scans}, loop start {}: {verdict}",
+            self.kind, self.loop_start
+        )
     }
 }
 
@@ -67,12 +73,9 @@ impl fmt::Display for CommandCause {
 }
 
 // What a line should have been, as the end of a sentence.
-#[derive(Clone, Copy)]
-struct LineCause(Expected);
-
-impl fmt::Display for LineCause {
+impl fmt::Display for Expected {
     fn fmt<W: fmt::Write>(&self, f: &mut fmt::Formatter<W>) -> fmt::Result {
-        match self.0 {
+        match self {
             Expected::Heading => write!(f, "expected `packed loop S` or `edges N loop S`"),
             Expected::Word => write!(f, "expected a word of 1 to 16 hexadecimal digits"),
             Expected::Edge => write!(f, "expected a scan and a word, as `12 a3`"),
@@ -100,8 +103,7 @@ fn text_fault<W: fmt::Write>(
     match fault {
         TextFault::NoHeading => write!(f, "unreadable: {file} has no heading"),
         TextFault::Line { line, expected } => {
-            let cause = LineCause(expected);
-            write!(f, "unreadable: line {line} of {file}: {cause}")
+            write!(f, "unreadable: line {line} of {file}: {expected}")
         }
         TextFault::Memory => write!(f, "unreadable: {file}: no memory for the recording"),
     }
@@ -115,10 +117,10 @@ fn recording_fault<W: fmt::Write>(
     let number = fault.number();
     match fault {
         RecordingFault::ScanCount(count) => {
-            let scans = Counted(count, "scan");
             write!(
                 f,
-                "refused {number}: {file} has {scans}; a recording has 1 to 65535"
+                "refused {number}: {file} has {}; a recording has 1 to 65535",
+                Counted(count, "scan")
             )
         }
         RecordingFault::LoopStart(start) => {
@@ -144,10 +146,10 @@ fn judge_fault<W: fmt::Write>(
     let number = fault.number();
     match fault {
         JudgeFault::NotInBook(place) => {
-            let index = place.index;
             write!(
                 f,
-                "refused {number} for {file}: there is no node at place {index}"
+                "refused {number} for {file}: there is no node at place {}",
+                place.index
             )
         }
         JudgeFault::Short(_, needed) => {

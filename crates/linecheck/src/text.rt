@@ -90,53 +90,40 @@ fn edge_of(line: &str) -> Option<Edge>
 
 // The heading, which is the first line that says something, and the number of its line, counted from 1.
 fn first_line(text: &str) -> Result<(usize, Heading), TextFault> {
-    for (index, line) in text.lines().enumerate() {
-        if !is_silent(line) {
-            let line_number = index + 1;
-            return match heading_of(line.trim_end()) {
-                Some(heading) => Ok((line_number, heading)),
-                None => Err(TextFault::Line {
-                    line: line_number,
-                    expected: Expected::Heading,
-                }),
-            };
-        }
-    }
-    Err(TextFault::NoHeading)
+    let (index, line) = text
+        .lines()
+        .enumerate()
+        .find(|(_, line)| !is_silent(line))
+        .ok_or(TextFault::NoHeading)?;
+    let line_number = index + 1;
+    let fault = TextFault::Line {
+        line: line_number,
+        expected: Expected::Heading,
+    };
+    Ok((line_number, heading_of(line.trim_end()).ok_or(fault)?))
 }
 
-// The words of the lines that follow the first ones.
-fn words_after(heap: Global, text: &str, first: usize) -> Result<Vec<u64>, TextFault> {
-    let mut words = Vec::new(heap);
+// The entries of the lines that follow the first ones, each as `entry` reads it.
+fn entries_after<T: Drop, F: Fn(&str) -> Option<T>>(
+    heap: Global,
+    text: &str,
+    first: usize,
+    expected: Expected,
+    entry: F,
+) -> Result<Vec<T>, TextFault>
+    requires { F.IsAlwaysCallable entry }
+{
+    let mut entries = Vec::new(heap);
     for (index, line) in text.lines().enumerate().skip(first) {
         if !is_silent(line) {
-            let Some(word) = hex_word(line.trim_end().as_bytes()) else {
-                return Err(TextFault::Line {
-                    line: index + 1,
-                    expected: Expected::Word,
-                });
+            let fault = TextFault::Line {
+                line: index + 1,
+                expected,
             };
-            words.push(word)?;
+            entries.push(entry(line.trim_end()).ok_or(fault)?)?;
         }
     }
-    Ok(words)
-}
-
-// The edges of the lines that follow the first ones.
-fn edges_after(heap: Global, text: &str, first: usize) -> Result<Vec<Edge>, TextFault> {
-    let mut edges = Vec::new(heap);
-    for (index, line) in text.lines().enumerate().skip(first) {
-        if !is_silent(line) {
-            let Some(edge) = edge_of(line.trim_end()) else {
-                return Err(TextFault::Line {
-                    line: index + 1,
-                    expected: Expected::Edge,
-                });
-            };
-            edges.push(edge)?;
-        }
-    }
-    Ok(edges)
+    Ok(entries)
 }
 
 // The recording that a text says.
@@ -144,11 +131,17 @@ pub(crate) fn parse(heap: Global, text: &str) -> Result<Recorded, TextFault> {
     let (first, heading) = first_line(text)?;
     match heading {
         Heading::Packed { loop_start } => {
-            let words = words_after(heap, text, first)?;
+            let words = entries_after(
+                heap,
+                text,
+                first,
+                Expected::Word,
+                |line| hex_word(line.as_bytes()),
+            )?;
             Ok(Recorded::Packed { words, loop_start })
         }
         Heading::Edges { count, loop_start } => {
-            let edges = edges_after(heap, text, first)?;
+            let edges = entries_after(heap, text, first, Expected::Edge, edge_of)?;
             Ok(Recorded::Edges {
                 edges,
                 count,

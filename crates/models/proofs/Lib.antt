@@ -1,2 +1,3 @@
-pub mod Halving
 pub mod Orderly
+pub mod Parted
+pub mod Unrolled

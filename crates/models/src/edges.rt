@@ -6,14 +6,15 @@ ghost use Rattle.models.specs.Soundness.{edges_sound};
 use crate::fault::RecordingFault;
 use crate::recording::{Recording, check_scans};
 
-// From this scan on, up to the next edge, the word is this one.
-#[derive(Clone, Copy)]
+/// From this scan on, up to the next edge, the word is this one. Bit s of the word is signal s, s from 0 to 63.
+#[derive(Clone, Copy, PartialEq, Eq, Debug)]
 pub struct Edge {
     pub scan: usize,
     pub word: u64,
 }
 
-// The edges in the order of their scans, how many scans there are, and the loop start.
+/// A recording with a word per change: the edges in the order of their scans, how many scans there are
+/// (1 to 65,535), and the loop start. The rule is in `docs/RECORDINGS.md`.
 #[derive(Drop)]
 pub struct Edges<'a> {
     edges: &'a [Edge],
@@ -31,42 +32,38 @@ fn first_fault(edges: &[Edge], count: usize) -> Option<usize>
     if edges.is_empty() || edges[0].scan != 0 {
         return Some(0);
     }
+    // Kept: the new form is no plainer: each edge is compared with the one before it, which a chain would have to carry.
     let mut low = 0;
-    for (index, edge) in edges.iter().enumerate() {
-        let here = *edge;
-        if here.scan < low || here.scan >= count {
+    for (index, &edge) in edges.iter().enumerate() {
+        if edge.scan < low || edge.scan >= count {
             return Some(index);
         }
-        low = here.scan + 1;
+        low = edge.scan + 1;
     }
     None
 }
 
-// What `Edges::check` answers; the words of edges that pass have 64 bits.
-fn check_edges(edges: &[Edge], count: usize, loop_start: usize) -> Result<(), RecordingFault>
-    ensures value { result ≡ edges_check edges.now count loop_start }
-    ensures small { is_ok result ≡ true → Smalls edges.now }
-{
-    check_scans(count, loop_start)?;
-    match first_fault(edges, count) {
-        Some(index) => Err(RecordingFault::EdgeOrder(index)),
-        None => Ok(()),
-    }
-}
-
 impl<'a> Edges<'a> {
-    // Whether these edges, with this count of scans and this loop start, are a recording.
+    /// Whether these edges, with this count of scans and this loop start, are a recording. Refused are, in
+    /// this order, a count that is 0 or over 65,535 (12), a loop start that is not below the count (13), and
+    /// edges of which the first is not at scan 0, or that do not rise, or that reach the count (14). The words
+    /// of edges that pass have 64 bits. The rule is in `docs/RECORDINGS.md`.
     pub fn check(edges: &[Edge], count: usize, loop_start: usize) -> Result<(), RecordingFault>
-        ensures { result ≡ edges_check edges.now count loop_start }
+        ensures value { result ≡ edges_check edges.now count loop_start }
+        ensures small { is_ok result ≡ true → Smalls edges.now }
     {
-        check_edges(edges, count, loop_start)
+        check_scans(count, loop_start)?;
+        match first_fault(edges, count) {
+            Some(index) => Err(RecordingFault::EdgeOrder(index)),
+            None => Ok(()),
+        }
     }
 
-    // The recording of these edges; where they are refused, one scan of the word 0, which loops.
+    /// The recording of these edges; where `check` refuses them, one scan of the word 0, which loops.
     pub fn new(edges: &'a [Edge], count: usize, loop_start: usize) -> Edges<'a>
         ensures { of_edges result.edges.now result.count result.loop_start ≡ edges_of edges.now count loop_start }
     {
-        match check_edges(edges, count, loop_start) {
+        match Edges::check(edges, count, loop_start) {
             Ok(()) => Edges {
                 edges,
                 count,
@@ -80,25 +77,16 @@ impl<'a> Edges<'a> {
         }
     }
 
-    // The word of the last edge at or before the scan, by halving: the edge `low` is at or before
-    // the scan, and each from `high` on is after it.
+    // The word of the last edge at or before the scan.
     fn word_at(&self, scan: usize) -> u64
         ensures { result ≡ word_at self.now.edges.now scan }
     {
-        let mut low = 0;
-        let mut high = self.edges.len();
-        while high - low > 1 {
-            let middle = low + (high - low) / 2;
-            if self.edges[middle].scan <= scan {
-                low = middle;
-            } else {
-                high = middle;
-            }
-        }
-        self.edges[low].word
+        let after = self.edges.partition_point(|edge| edge.scan <= scan);
+        self.edges[after - 1].word
     }
 }
 
+#[tactic(auto, using(crate::proofs::Unrolled::edge_words))]
 impl Recording for Edges<'_> {
     ghost meaning = { λ p. of_edges p.edges.now p.count p.loop_start };
 

@@ -6,7 +6,8 @@ ghost use Rattle.models.specs.Soundness.{packed_sound};
 use crate::fault::RecordingFault;
 use crate::recording::{Recording, check_scans};
 
-// The word of each scan, and the loop start.
+/// A recording with a word per scan (1 to 65,535 of them), and the loop start. Bit s of a word is signal s,
+/// s from 0 to 63. The rule is in `docs/RECORDINGS.md`.
 #[derive(Drop)]
 pub struct Packed<'a> {
     words: &'a [u64],
@@ -16,14 +17,15 @@ pub struct Packed<'a> {
 }
 
 impl<'a> Packed<'a> {
-    // Whether these words and this loop start are a recording.
+    /// Whether these words and this loop start are a recording. Refused are no word or over 65,535 (12), and
+    /// then a loop start that is not below their count (13). The rule is in `docs/RECORDINGS.md`.
     pub fn check(words: &[u64], loop_start: usize) -> Result<(), RecordingFault>
         ensures { result ≡ packed_check words.now loop_start }
     {
         check_scans(words.len(), loop_start)
     }
 
-    // The recording of these words; where they are refused, one scan of the word 0, which loops.
+    /// The recording of these words; where `check` refuses them, one scan of the word 0, which loops.
     pub fn new(words: &'a [u64], loop_start: usize) -> Packed<'a>
         ensures { of_packed result.words.now result.loop_start ≡ packed_of words.now loop_start }
     {
@@ -51,10 +53,6 @@ impl Recording for Packed<'_> {
     }
 
     fn word(&self, scan: usize) -> u64 {
-        if scan < self.words.len() {
-            self.words[scan]
-        } else {
-            0
-        }
+        self.words.get(scan).copied().unwrap_or(0)
     }
 }

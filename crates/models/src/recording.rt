@@ -5,25 +5,26 @@ ghost use Rattle.models.specs.Scans.{scans_check};
 
 use crate::fault::RecordingFault;
 
-// How many scans a recording may have.
+/// How many scans a recording may have.
 pub const MOST_SCANS: usize = 65_535;
 
-// What a recording is asked.
+/// What a recording is asked, of whatever kind. Scans are numbered from 0; bit s of a word is signal s, s from
+/// 0 to 63. The rule is in `docs/RECORDINGS.md`.
 pub trait Recording {
     // the words and the loop start
     ghost meaning: { Self → Lasso };
 
     ghost sound: { (x : Self) → Sound (meaning x) };
 
-    // How many scans there are.
+    /// How many scans there are, 1 to 65,535.
     fn count(&self) -> usize
         ensures { result ≡ length (meaning self.now).words };
 
-    // The scan that follows the last one.
+    /// The scan that follows the last one; it is below the count.
     fn loop_start(&self) -> usize
         ensures { result ≡ (meaning self.now).start };
 
-    // The word of a scan, and 0 where there is no such scan.
+    /// The word of a scan, and 0 where there is no such scan.
     fn word(&self, scan: usize) -> u64
         ensures { result ≡ slice_index (meaning self.now).words scan };
 }

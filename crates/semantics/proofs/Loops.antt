@@ -1,8 +1,8 @@
 -- The scans of an endless sequence that goes back from its last scan to the loop start.
 use Rattle.std.proofs.Common.{◌≡◌, ℕ, zero, suc, ◌+◌, ◌-◌, ◌*◌, ◌/◌, ◌%◌, ◌<◌, ◌≤◌, ◌⊎◌, ◌↔◌, length, get_or, sym, ap, ◌∙◌, subst, inl, inr, add-zero, mod-lt, mod-eq_of_lt, suc-mul, div-add-mod', arith}
-use native.Mathlib.Decide.{dec_lt}
-use native.Mathlib.Nat.{add-mod_right}
-use lib.Arith.{digits_mod}
+use Rattle.std.proofs.Math.Decide.{dec_lt}
+use Rattle.std.proofs.Math.Nat.{add-mod_right}
+use Rattle.std.proofs.Math.Arith.{digits_mod}
 use Rattle.std.proofs.lemmas.Bool.{lt-ltb, le-ltb, cond-true, cond-false}
 use Rattle.semantics.specs.Lassos.{Lasso, wrapped, scan_at, unrolled, following}
 use Rattle.semantics.specs.Meaning.{Holds}

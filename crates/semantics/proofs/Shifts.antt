@@ -14,10 +14,6 @@ Shift A i A' j = (k : ℕ) → A (i + k) ↔ A' (j + k)
 pub shift_here : (A A' : ℕ → Type 0) (i j : ℕ) → Shift A i A' j → A i ↔ A' j
 shift_here A A' i j s = subst (λ x. A x ↔ A' j) (add-zero i) (subst (λ y. A (i + 0) ↔ A' y) (add-zero j) (s 0))
 
--- the same from further on
-pub shift_on : (A A' : ℕ → Type 0) (i j n : ℕ) → Shift A i A' j → Shift A (i + n) A' (j + n)
-shift_on A A' i j n s k = subst (λ x. A x ↔ A' (j + n + k)) (sym (add_assoc i n k)) (subst (λ y. A (i + (n + k)) ↔ A' y) (sym (add_assoc j n k)) (s (n + k)))
-
 pub shift_back : (A A' : ℕ → Type 0) (i j : ℕ) → Shift A i A' j → Shift A' j A i
 shift_back A A' i j s k = ((s k).1, (s k).0)
 
@@ -39,7 +35,7 @@ module _ (A B A' B' : ℕ → Type 0) where
 pub until_shift : (A B A' B' : ℕ → Type 0) (i j : ℕ) → Shift A i A' j → Shift B i B' j → UntilAt A B i ↔ UntilAt A' B' j
 until_shift A B A' B' i j s t = (until_go A B A' B' i j s t, until_go A' B' A B j i (shift_back A A' i j s) (shift_back B B' i j t))
 
-not_iff : {A B : Type 0} → A ↔ B → (¬ A) ↔ (¬ B)
+pub not_iff : {A B : Type 0} → A ↔ B → (¬ A) ↔ (¬ B)
 not_iff e = (λ f b. f (e.1 b), λ f a. f (e.0 a))
 
 or_iff : {A B C D : Type 0} → A ↔ C → B ↔ D → (A ⊎ B) ↔ (C ⊎ D)

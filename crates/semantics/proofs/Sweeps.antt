@@ -1,7 +1,7 @@
 -- The solutions of "v at i is: hold at i, or pass at i and v at the next", by sweeps from the last scan back.
 -- The least one is pass until hold, the greatest one is pass weak until hold.
 use Rattle.std.proofs.Common.{◌≡◌, ℕ, zero, suc, ◌+◌, ◌-◌, ◌<◌, ◌≤◌, Bool, true, false, ◌&&◌, ◌||◌, ◌⊎◌, ◌↔◌, Decides, sym, refl, ap, ◌∙◌, subst, inl, inr, arith}
-use native.Mathlib.Decide.{dec_lt, ℕ_discrete}
+use Rattle.std.proofs.Math.Decide.{dec_lt, ℕ_discrete}
 use Rattle.std.proofs.lemmas.Bool.{both_ways, false≢true, cases_Bool}
 use Rattle.std.proofs.lemmas.Bool.Decides.{Decides-or, Decides-and, Decides-like}
 use Rattle.semantics.specs.Meaning.{UntilAt, AlwaysAt}
@@ -77,9 +77,6 @@ module _ (hold pass : ℕ → Bool) where
 
   abbrev pub Reached : Bool → ℕ → ℕ → Type 0
   Reached g n i = HitBefore n i ⊎ ((g ≡ true) × ((k : ℕ) → i ≤ k → k < n → pass k ≡ true))
-
-  pub reached_end : (g : Bool) (n : ℕ) → Decides g (Reached g n n)
-  reached_end g n = (λ e. inr (e, λ k h l. absurd (omega arith)), elim [ inl w ↦ absurd (omega (arith, w.1, w.2)) | inr q ↦ q.0 ])
 
   reached_opens : (g : Bool) (n i : ℕ) → i < n → Opens (Reached g n) i
   unfolding Opens

@@ -1,14 +1,15 @@
 -- When a rule holds of an endless sequence of words, at a position of it. Bit s of a word is signal s.
-use Rattle.std.specs.Prelude.{◌≡◌, ℕ, suc, ◌/◌, ◌%◌, ◌^◌, ◌<◌, ◌≤◌, ◌⊎◌}
+use Rattle.std.specs.Prelude.{◌≡◌, ℕ, suc, ◌<◌, ◌≤◌, ◌⊎◌}
+use Rattle.std.specs.Int.{bit_at}
 use Rattle.rules.specs.declared.node.UnaryOp.{UnaryOp}
 use Rattle.rules.specs.declared.node.UnaryOp.TheVariants.{Not, Next, Eventually, Always}
 use Rattle.rules.specs.declared.node.BinaryOp.{BinaryOp}
 use Rattle.rules.specs.declared.node.BinaryOp.TheVariants.{And, Or, Implies, Equivalent, ExclusiveOr, Until, Release, WeakUntil, StrongRelease}
 use Rattle.semantics.specs.Rules.{Rule, Top, Bottom, Atom, One, Two}
 
--- bit k of a word
+-- bit k of a word, 0 or 1: word / 2 ^ k % 2
 abbrev pub bit : ℕ → ℕ → ℕ
-bit word k = word / 2 ^ k % 2
+bit word k = bit_at word k
 
 -- b at some j from i on, and a at each k from i up to j
 abbrev pub UntilAt : (ℕ → Type 0) → (ℕ → Type 0) → ℕ → Type 0

@@ -26,6 +26,7 @@ fn digit(byte: u8, base: u64) -> Option<u64>
 }
 
 // The number that some digits say, the highest first.
+#[tactic(auto, using(crate::proofs::Growth::room))]
 fn number(text: &[u8], base: u64, most: usize) -> Option<u64>
     requires { base ^ most ≤ 2 ^ 64 }
     ensures { result ≡ numeral base most text.now }
@@ -34,28 +35,24 @@ fn number(text: &[u8], base: u64, most: usize) -> Option<u64>
         return None;
     }
     let mut value = 0;
-    for byte in text {
-        let Some(next) = digit(*byte, base) else {
-            return None;
-        };
-        value = value * base + next;
+    for &byte in text {
+        value = value * base + digit(byte, base)?;
     }
     Some(value)
 }
 
-// The word that 1 to 16 hexadecimal digits say, in either case.
+/// The word of 64 bits that 1 to 16 hexadecimal digits say, in either case; `None` for any other text. The
+/// formats are in `docs/FORMATS.md`.
 pub fn hex_word(text: &[u8]) -> Option<u64>
     ensures { result ≡ numeral 16 16 text.now }
 {
     number(text, 16, MOST_HEX)
 }
 
-// The number that 1 to 19 decimal digits say.
+/// The number that 1 to 19 decimal digits say, 0 to 10^19 - 1; `None` for any other text. The formats are in
+/// `docs/FORMATS.md`.
 pub fn decimal(text: &[u8]) -> Option<usize>
     ensures { result ≡ numeral 10 19 text.now }
 {
-    match number(text, 10, MOST_DECIMAL) {
-        Some(value) => Some(value as usize),
-        None => None,
-    }
+    number(text, 10, MOST_DECIMAL).map(|value| value as usize)
 }

@@ -1,13 +1,6 @@
 use Rattle.std.proofs.Common.{sym, subst, arith}
-use Rattle.judging.proofs.Fill.{Filled, fill_starts, fill_left, fill_noted, told_same, told_other}
+use Rattle.judging.proofs.Fill.{Filled, fill_left, fill_noted, told_same, told_other}
 use Rattle.judging.proofs.column.fill_column.Goals as goal
-
-pub loop-scan-init : goal.loop-scan-init
-loop-scan-init g c =
-    let l = g.R.Recording.meaning c.args.recording.now in
-    let inside = (g.R.Recording.sound c.args.recording.now).inside in
-    fill_starts c.args.node l inside c.args.place.index c.requires.few c.requires.lower c.args.work.now c.requires.enough
-    c.count-scan.result c.first_sweep-value.result c.count-scan.ensures c.first_sweep-value.ensures c.requires.empty
 
 pub loop-scan-preserved : goal.loop-scan-preserved
 loop-scan-preserved g c =
@@ -29,12 +22,3 @@ loop-scan-preserved-then-value-denied g c =
     (told_other c.before-value.result c.denies-denied.result _ c.if-value-denied.true c.denies-denied.ensures)
     in
     subst (Filled c.args.node l c.args.place.index c.args.work.now _ c.before-value.result) (sym c.note.ensures) noted
-
-pub returns : goal.returns
-returns g c =
-    let w = c.loop-scan.invariant in
-    record {
-      column = λ i h. w.column i (omega arith) h;
-      others = w.others;
-      rest = w.rest;
-    }

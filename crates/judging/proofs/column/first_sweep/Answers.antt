@@ -1,13 +1,6 @@
-use Rattle.std.proofs.Common.{◌≡◌, ◌≤◌, arith}
-use Rattle.judging.proofs.Back.{sweep_starts, sweep_back, sweep_ends}
+use Rattle.std.proofs.Common.{◌≡◌, arith}
+use Rattle.judging.proofs.Back.{sweep_back, sweep_ends}
 use Rattle.judging.proofs.column.first_sweep.Goals as goal
-
-pub loop-scan-init : goal.loop-scan-init
-loop-scan-init g c =
-    let l = g.R.Recording.meaning c.args.recording.now in
-    let inside = (g.R.Recording.sound c.args.recording.now).inside in
-    let few : l.start ≤ c.count-scan.result = omega (arith, inside) in
-    (few, sweep_starts c.args.node l c.args.work.now inside c.lasts-value.result c.count-scan.result c.lasts-value.ensures c.count-scan.ensures)
 
 pub loop-scan-preserved : goal.loop-scan-preserved
 loop-scan-preserved g c =

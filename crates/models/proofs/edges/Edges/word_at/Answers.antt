@@ -1,18 +1,18 @@
-use Rattle.std.proofs.Common.{sym, arith}
-use Rattle.models.proofs.Halving.{word_found}
-use Rattle.models.proofs.Orderly.{passed_rising}
+use Rattle.std.proofs.Common.{rules}
+use Rattle.std.proofs.lemmas.List.Sorted.{IsPartitionPoint-from_clause}
+use Rattle.models.proofs.Parted.{at_or_before, parted, some_before, word_before}
 use Rattle.models.proofs.edges.Edges.word_at.Goals as goal
 
-pub loop-high-preserved : goal.loop-high-preserved
-loop-high-preserved c =
-    let me = c.args.self.now in (
-      omega arith,
-      omega arith,
-      c.loop-high.invariant.2,
-      λ k l h. omega (arith, passed_rising me.edges.now me.count me.loop_start me.passed _ k l h),
-    )
+pub overflow_sub-result : goal.overflow_sub-result
+overflow_sub-result c =
+    let me = c.args.self.now in
+    let call = c.partition_point-after.ensures in
+    let both = parted me.edges.now me.count me.loop_start c.args.scan me.passed in
+    some_before me.edges.now me.count me.loop_start c.args.scan me.passed _ (IsPartitionPoint-from_clause (at_or_before c.args.scan) _ _ call.partitioned both (λ a r f k. search rules)) call.bound
 
 pub returns : goal.returns
 returns c =
-    let inv = c.loop-high.invariant in
-    sym (word_found 0 c.args.self.now.edges.now c.args.scan c.loop-high.low (omega arith) inv.2 (λ k l h. inv.3 k (omega arith) h))
+    let me = c.args.self.now in
+    let call = c.partition_point-after.ensures in
+    let both = parted me.edges.now me.count me.loop_start c.args.scan me.passed in
+    word_before me.edges.now me.count me.loop_start c.args.scan me.passed _ (IsPartitionPoint-from_clause (at_or_before c.args.scan) _ _ call.partitioned both (λ a r f k. search rules)) call.bound
