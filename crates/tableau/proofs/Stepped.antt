@@ -1,5 +1,5 @@
 -- The steps made, as the call tells of them.
-use Rattle.std.proofs.Common.{◌≡◌, ℕ, ◌-◌, ◌≤◌, List, ◌++◌, length, take, drop, None, sym, refl, ap, ◌∙◌, subst, arith}
+use Rattle.std.proofs.Common.{◌≡◌, ℕ, ◌≤◌, List, ◌++◌, length, take, drop, None, sym, refl, ap, ◌∙◌, subst, arith}
 use Rattle.std.proofs.lemmas.List.{reverse-reverse}
 use Rattle.std.proofs.lemmas.List.{length-take-le, length-reverse, take-append-drop}
 use Rattle.automata.specs.Steps.{Config}
@@ -60,13 +60,5 @@ module _ (s : Standing) (l : Lists) (n : ℕ) (w : Walk) (ss : List State) (xs :
         pending_long = k.long_pending;
       }
 
-  steps_are : None ≡ short_list s l → (a : Answer) → a ≡ walk_told s.cores s.sets w → Steps s l n a (lists l.sheet ss xs ps)
+  pub steps_are : None ≡ short_list s l → (a : Answer) → a ≡ walk_told s.cores s.sets w → Steps s l n a (lists l.sheet ss xs ps)
   steps_are e a f = stepped (sym e) (f ∙ told_is) (subst (λ c. Written c l (lists l.sheet ss xs ps)) (λ j. (walked.advanced j).config) written_is)
-
--- the part of the sheet from 0 on, as it is lent
-pub all_steps : (s : Standing) (l : Lists) (n : ℕ) (w : Walk) (ss : List State) (xs : List Arc) (ps : List Item)
-    → Walked (take (s.cores - 0) l.sheet) (from s) l.states l.arcs l.pending n w ss xs ps
-    → None ≡ short_list s l → (a : Answer) → a ≡ walk_told s.cores s.sets w → Steps s l n a (lists l.sheet ss xs ps)
-all_steps s l n w ss xs ps walked =
-    let e : s.cores - 0 ≡ s.cores = omega arith in
-    steps_are s l n w ss xs ps (subst (λ k. Walked (take k l.sheet) (from s) l.states l.arcs l.pending n w ss xs ps) e walked)

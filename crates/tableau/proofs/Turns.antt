@@ -59,13 +59,6 @@ enough p c s e =
       pending = ltb-false _ _ n.3;
     }
 
--- a part from 0 on, as it is lent
-pub plan_at : (sheet : List CoreNode) (ss : List State) (xs : List Arc) (i : Item) (m n : ℕ) (p : Plan) → p ≡ planned sheet (take (m - 0) ss) (take (n - 0) xs) i → p ≡ planned sheet (take m ss) (take n xs) i
-plan_at sheet ss xs i m n p e =
-    let a : m - 0 ≡ m = omega arith in
-    let b : n - 0 ≡ n = omega arith in
-    e ∙ (λ j. planned sheet (take (a j) ss) (take (b j) xs) i)
-
 module _ (sheet : List CoreNode) (s : Space) (c : Counts) (ss : List State) (xs : List Arc) (ps : List Item) (d : Item) (p : Plan)
     (inside : Within c s) (some : 0 < c.pending) (long_s : s.states ≤ length ss) (long_a : s.arcs ≤ length xs) (long_p : s.pending ≤ length ps)
     (is : p ≡ planned sheet (take c.states ss) (take c.arcs xs) (get_or ps (c.pending - 1) d)) where

@@ -4,8 +4,8 @@ ghost use Rattle.rules.specs.Books.{entries};
 ghost use Rattle.tableau.specs.Beginning.{first_item, begins, Begins};
 
 use crate::fault::{BeginFault, LentList, ShortFault};
-use crate::gathers::count_untils;
 use crate::limits::MOST_UNTILS;
+use crate::sheets::Sheet;
 use crate::translation::Running;
 use automata::items::Item;
 use automata::nodes::{CoreNode, CoreSet};
@@ -49,7 +49,7 @@ pub fn begin(
 {
     let form = core_form(book, place)?;
     let nodes = form.nodes();
-    let untils = count_untils(nodes);
+    let untils = Sheet { nodes }.count_untils();
     if untils > MOST_UNTILS {
         return Err(BeginFault::TooManyUntils(untils));
     }

@@ -3,13 +3,11 @@ ghost use Rattle.std.specs.Prelude.{◌≡◌, ◌<◌, ◌≤◌, length};
 ghost use Rattle.automata.specs.Sets.{lowest as lowest_of};
 ghost use Rattle.automata.specs.Steps.{drops as is_dropped, item as item_of};
 ghost use Rattle.tableau.specs.declared.limits.TheConstants.{MOST_STATES};
-ghost use Rattle.tableau.specs.Nodes.{Sound};
 ghost use Rattle.tableau.specs.Plans.{split_plan, taken_plan, join_plan, settle_plan, planned};
 
 use crate::finds::{arc_among, states_before};
-use crate::gathers::{off_signals, on_signals, state_of};
 use crate::sets::{contains, insert, join, lowest, remove};
-use crate::sheets::node_at;
+use crate::sheets::{Checked, Sheet};
 use automata::items::{Arc, Item, State};
 use automata::nodes::{CoreNode, CoreSet};
 
@@ -25,21 +23,20 @@ pub(crate) enum Plan {
 }
 
 // Whether an item is dropped at this node: it is false, or a literal whose opposite is in Old.
-fn drops(sheet: &[CoreNode], old: CoreSet, node: CoreNode) -> bool
-    requires { (length sheet.now ≤ 64) × (Sound node) }
-    ensures { result ≡ is_dropped sheet.now old node }
+fn drops(sheet: &Sheet<'_>, old: CoreSet, read: Checked) -> bool
+    ensures { result ≡ is_dropped sheet.now.nodes.now old read.node }
 {
-    match node {
+    match read.node {
         CoreNode::False => true,
         CoreNode::On(s) => contains(
             CoreSet {
-                bits: off_signals(sheet, old),
+                bits: sheet.off_signals(old),
             },
             s,
         ),
         CoreNode::Off(s) => contains(
             CoreSet {
-                bits: on_signals(sheet, old),
+                bits: sheet.on_signals(old),
             },
             s,
         ),
@@ -60,14 +57,14 @@ fn with(item: Item, new: CoreSet, next: CoreSet) -> Item
 }
 
 // The items that take the place of an item from which node k was taken.
-fn split(node: CoreNode, k: u8, item: Item) -> Plan
-    requires { (Sound node) × (k < 64) }
-    ensures { result ≡ split_plan node k item.source item.new item.old item.next }
+fn split(read: Checked, k: u8, item: Item) -> Plan
+    requires { k < 64 }
+    ensures { result ≡ split_plan read.node k item.source item.new item.old item.next }
 {
     let new = item.new;
     let old = item.old;
     let next = item.next;
-    match node {
+    match read.node {
         CoreNode::False => Plan::Nothing,
         CoreNode::True | CoreNode::On(_) | CoreNode::Off(_) => Plan::One(item),
         CoreNode::Next(a) => Plan::One(with(item, new, insert(next, a))),
@@ -88,13 +85,13 @@ fn split(node: CoreNode, k: u8, item: Item) -> Plan
 }
 
 // The lowest number leaves New.
-fn plan_taken(sheet: &[CoreNode], item: Item) -> Plan
-    requires { (length sheet.now ≤ 64) × (0 < item.new.bits) }
-    ensures { result ≡ taken_plan sheet.now (lowest_of item.new) item }
+fn plan_taken(sheet: &Sheet<'_>, item: Item) -> Plan
+    requires { 0 < item.new.bits }
+    ensures { result ≡ taken_plan sheet.now.nodes.now (lowest_of item.new) item }
 {
     let k = lowest(item.new);
-    let node = node_at(sheet, k);
-    if drops(sheet, item.old, node) {
+    let read = sheet.node_at(k);
+    if drops(sheet, item.old, read) {
         Plan::Nothing
     } else {
         let rest = Item {
@@ -103,7 +100,7 @@ fn plan_taken(sheet: &[CoreNode], item: Item) -> Plan
             old: insert(item.old, k),
             next: item.next,
         };
-        split(node, k, rest)
+        split(read, k, rest)
     }
 }
 
@@ -119,9 +116,9 @@ fn plan_join(count: usize, arc: Arc, arcs: &[Arc]) -> Plan
 }
 
 // New is empty: a state has this Old and Next, or a new one is made.
-fn plan_settled(sheet: &[CoreNode], states: &[State], arcs: &[Arc], item: Item) -> Plan
-    requires { (length sheet.now ≤ 64) × (length states.now ≤ MOST_STATES) }
-    ensures { result ≡ settle_plan sheet.now states.now arcs.now item }
+fn plan_settled(sheet: &Sheet<'_>, states: &[State], arcs: &[Arc], item: Item) -> Plan
+    requires { length states.now ≤ MOST_STATES }
+    ensures { result ≡ settle_plan sheet.now.nodes.now states.now arcs.now item }
 {
     let before = states_before(states, item.old, item.next);
     if before < states.len() {
@@ -135,7 +132,7 @@ fn plan_settled(sheet: &[CoreNode], states: &[State], arcs: &[Arc], item: Item) 
         )
     } else {
         let to = states.len() as u32 + 1;
-        let made = state_of(sheet, item.old, item.next);
+        let made = sheet.state_of(item.old, item.next);
         let onward = Item {
             source: to,
             new: item.next,
@@ -154,9 +151,9 @@ fn plan_settled(sheet: &[CoreNode], states: &[State], arcs: &[Arc], item: Item) 
 }
 
 // The plan for the item that was put in last, by the states and arcs there are.
-pub(crate) fn plan_for(sheet: &[CoreNode], states: &[State], arcs: &[Arc], item: Item) -> Plan
-    requires { (length sheet.now ≤ 64) × (length states.now ≤ MOST_STATES) }
-    ensures { result ≡ planned sheet.now states.now arcs.now item }
+pub(crate) fn plan_for(sheet: &Sheet<'_>, states: &[State], arcs: &[Arc], item: Item) -> Plan
+    requires { length states.now ≤ MOST_STATES }
+    ensures { result ≡ planned sheet.now.nodes.now states.now arcs.now item }
 {
     if item.new.bits == 0 {
         plan_settled(sheet, states, arcs, item)

@@ -7,6 +7,7 @@ ghost use Rattle.tableau.specs.Walks.{Ended};
 
 use crate::fault::{LentList, ShortFault};
 use crate::rooms::Counts;
+use crate::sheets::Sheet;
 use crate::translation::{Finished, Progress, Running, StepRefused};
 use crate::walks::{Outcome, Walk, advance};
 use automata::items::{Arc, Item, State};
@@ -106,14 +107,16 @@ pub fn step(
                 arcs: joined,
                 pending: waiting,
             } = translation;
-            let used = cores as usize;
+            let used = Sheet {
+                nodes: &sheet[..cores as usize],
+            };
             let start = Counts {
                 steps,
                 states: made as usize,
                 arcs: joined as usize,
                 pending: waiting as usize,
             };
-            let walk = advance(start, &sheet[0..used], states, arcs, pending, allowance);
+            let walk = advance(start, &used, states, arcs, pending, allowance);
             Ok(progress(cores, sets, walk))
         }
     }

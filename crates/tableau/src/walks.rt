@@ -6,10 +6,10 @@ ghost use Rattle.tableau.specs.Walks.{space_of, spent_at, Turned, Walked};
 use crate::limits::{MOST_ARCS, MOST_PENDING, MOST_STATES};
 use crate::plans::plan_for;
 use crate::rooms::{Counts, Space, lacking};
+use crate::sheets::Sheet;
 use crate::translation::Lack;
 use crate::writes::write;
 use automata::items::{Arc, Item, State};
-use automata::nodes::CoreNode;
 
 #[derive(Clone, Copy)]
 pub(crate) enum Outcome {
@@ -38,20 +38,19 @@ fn space_in(states: &[State], arcs: &[Arc], pending: &[Item]) -> Space
 fn turn(
     counts: Counts,
     space: Space,
-    sheet: &[CoreNode],
+    sheet: &Sheet<'_>,
     states: &mut [State],
     arcs: &mut [Arc],
     pending: &mut [Item],
 ) -> Result<Counts, Lack>
-    requires sheet { length sheet.now ≤ 64 }
     requires inside { (Within counts space) × (0 < counts.pending) }
     requires lists { (space.states ≤ length states.old) × ((space.arcs ≤ length arcs.old) × (space.pending ≤ length pending.old)) }
-    ensures { Turned sheet.now space counts states.old arcs.old pending.old result states.new arcs.new pending.new }
+    ensures { Turned sheet.now.nodes.now space counts states.old arcs.old pending.old result states.new arcs.new pending.new }
 {
     let made = counts.states;
     let joined = counts.arcs;
     let item = pending[counts.pending - 1];
-    let plan = plan_for(sheet, &states[0..made], &arcs[0..joined], item);
+    let plan = plan_for(sheet, &states[..made], &arcs[..joined], item);
     match lacking(plan, counts, space) {
         Some(lack) => Err(lack),
         None => Ok(write(plan, counts, states, arcs, pending)),
@@ -78,15 +77,14 @@ fn spent(counts: Counts) -> Walk
 // As many steps as are allowed, until none is pending or there is no room.
 pub(crate) fn advance(
     start: Counts,
-    sheet: &[CoreNode],
+    sheet: &Sheet<'_>,
     states: &mut [State],
     arcs: &mut [Arc],
     pending: &mut [Item],
     allowance: u16,
 ) -> Walk
-    requires sheet { length sheet.now ≤ 64 }
     requires inside { Within start (space_of states.old arcs.old pending.old) }
-    ensures { Walked sheet.now start states.old arcs.old pending.old allowance result states.new arcs.new pending.new }
+    ensures { Walked sheet.now.nodes.now start states.old arcs.old pending.old allowance result states.new arcs.new pending.new }
 {
     let space = space_in(states, arcs, pending);
     let mut counts = start;
