@@ -1,6 +1,5 @@
 pub mod Begun
 pub mod Copied
-pub mod Found
 pub mod Gathered
 pub mod Planned
 pub mod Stepped

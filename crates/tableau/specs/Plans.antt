@@ -1,13 +1,15 @@
 -- What one step adds, found out before anything is written.
-use Rattle.std.specs.Prelude.{ℕ, ◌+◌, ◌-◌, cond, ◌&&◌, List, [], ◌∷◌, ◌++◌, length, ◌==◌, nat_le, nat_lt, slice_set}
+use Rattle.std.specs.Prelude.{ℕ, ◌+◌, ◌-◌, cond, ◌&&◌, List, [], ◌∷◌, ◌++◌, length, ◌==◌, nat_le, Some, None, Option, slice_set}
+use Rattle.std.specs.List.{list_any, position}
 use Rattle.automata.specs.Sets.{insert, remove, lowest, join, empty}
-use Rattle.automata.specs.Steps.{Config, node_on, drops, item, arc, arc_among, states_before, state_of}
+use Rattle.automata.specs.Steps.{Config, node_on, drops, item, arc, state_of}
 use Rattle.automata.specs.declared.items.Arc.{Arc}
 use Rattle.automata.specs.declared.items.Item.{Item}
 use Rattle.automata.specs.declared.items.State.{State}
 use Rattle.automata.specs.declared.nodes.CoreNode.{CoreNode}
 use Rattle.automata.specs.declared.nodes.CoreNode.TheVariants.{True, False, On, Off, Next, And, Or, Until, Release}
 use Rattle.automata.specs.declared.nodes.CoreSet.{CoreSet}
+use Rattle.tableau.specs.Nodes.{is_state, same_arc}
 use Rattle.tableau.specs.declared.plans.Plan.{Plan}
 use Rattle.tableau.specs.declared.plans.Plan.TheVariants.{Nothing, One, Two, Join, Make}
 
@@ -31,14 +33,16 @@ taken_plan sheet k i =
 
 -- the plan where there is a state with this Old and Next: its arc, unless it is there; one from above the n states counts as absent
 abbrev pub join_plan : ℕ → Arc → List Arc → Plan
-join_plan n a arcs = cond (nat_le a.from n && arc_among a arcs) Nothing (Join a)
+join_plan n a arcs = cond (nat_le a.from n && list_any (λ b. same_arc b a) arcs) Nothing (Join a)
 
--- the plan where New is empty: an arc to the state with this Old and Next, or a new state with an arc and an item
+-- the plan where New is empty, by the place of the state with this Old and Next: an arc to it, or a new state with an arc and an item
+abbrev pub settle_plan_at : Option ℕ → List CoreNode → ℕ → List Arc → Item → Plan
+settle_plan_at (Some before) sheet n arcs i = join_plan n (arc i.source (before + 1)) arcs
+settle_plan_at None sheet n arcs i = Make (state_of sheet i.old i.next) (arc i.source (n + 1)) (item (n + 1) i.next empty empty)
+
+-- the plan where New is empty
 abbrev pub settle_plan : List CoreNode → List State → List Arc → Item → Plan
-settle_plan sheet states arcs i =
-    cond (nat_lt (states_before i.old i.next states) (length states))
-    (join_plan (length states) (arc i.source (states_before i.old i.next states + 1)) arcs)
-    (Make (state_of sheet i.old i.next) (arc i.source (length states + 1)) (item (length states + 1) i.next empty empty))
+settle_plan sheet states arcs i = settle_plan_at (position (λ s. is_state s i.old i.next) states) sheet (length states) arcs i
 
 -- the plan for an item, by the states and arcs there are
 abbrev pub planned : List CoreNode → List State → List Arc → Item → Plan

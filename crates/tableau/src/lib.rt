@@ -3,7 +3,6 @@
 
 pub mod beginning;
 pub mod fault;
-pub(crate) mod finds;
 pub(crate) mod gathers;
 pub mod limits;
 pub(crate) mod plans;

@@ -1,11 +1,12 @@
 // What one step adds, found out before anything is written.
 ghost use Rattle.std.specs.Prelude.{◌≡◌, ◌<◌, ◌≤◌, length};
+ghost use Rattle.std.specs.List.{position};
 ghost use Rattle.automata.specs.Sets.{lowest as lowest_of};
 ghost use Rattle.automata.specs.Steps.{drops as is_dropped, item as item_of};
 ghost use Rattle.tableau.specs.declared.limits.TheConstants.{MOST_STATES};
+ghost use Rattle.tableau.specs.Nodes.{is_state};
 ghost use Rattle.tableau.specs.Plans.{split_plan, taken_plan, join_plan, settle_plan, planned};
 
-use crate::finds::{arc_among, states_before};
 use crate::sets::{contains, insert, join, lowest, remove};
 use crate::sheets::{Checked, Sheet};
 use automata::items::{Arc, Item, State};
@@ -108,11 +109,20 @@ fn plan_taken(sheet: &Sheet<'_>, item: Item) -> Plan
 fn plan_join(count: usize, arc: Arc, arcs: &[Arc]) -> Plan
     ensures { result ≡ join_plan count arc arcs.now }
 {
-    if arc.from as usize <= count && arc_among(arcs, arc) {
+    if arc.from as usize <= count && arcs.contains(&arc) {
         Plan::Nothing
     } else {
         Plan::Join(arc)
     }
+}
+
+// The place of the first state with this Old and Next.
+fn state_with(states: &[State], old: CoreSet, next: CoreSet) -> Option<usize>
+    ensures { result ≡ position (λ s. is_state s old next) states.now }
+{
+    states
+        .iter()
+        .position(|state| state.old == old && state.next == next)
 }
 
 // New is empty: a state has this Old and Next, or a new one is made.
@@ -120,33 +130,25 @@ fn plan_settled(sheet: &Sheet<'_>, states: &[State], arcs: &[Arc], item: Item) -
     requires { length states.now ≤ MOST_STATES }
     ensures { result ≡ settle_plan sheet.now.nodes.now states.now arcs.now item }
 {
-    let before = states_before(states, item.old, item.next);
-    if before < states.len() {
-        plan_join(
-            states.len(),
-            Arc {
-                from: item.source,
-                to: before as u32 + 1,
-            },
-            arcs,
-        )
-    } else {
-        let to = states.len() as u32 + 1;
-        let made = sheet.state_of(item.old, item.next);
-        let onward = Item {
-            source: to,
-            new: item.next,
-            old: CoreSet::default(),
-            next: CoreSet::default(),
-        };
-        Plan::Make(
-            made,
-            Arc {
-                from: item.source,
-                to,
-            },
-            onward,
-        )
+    let from = item.source;
+    match state_with(states, item.old, item.next) {
+        Some(before) => {
+            let to = before as u32 + 1;
+            plan_join(states.len(), Arc { from, to }, arcs)
+        }
+        None => {
+            let to = states.len() as u32 + 1;
+            let onward = Item {
+                source: to,
+                new: item.next,
+                ..Item::default()
+            };
+            Plan::Make(
+                sheet.state_of(item.old, item.next),
+                Arc { from, to },
+                onward,
+            )
+        }
     }
 }
 
