@@ -1,5 +1,4 @@
 pub mod Begun
-pub mod Copied
 pub mod Gathered
 pub mod Planned
 pub mod Stepped

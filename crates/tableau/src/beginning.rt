@@ -3,7 +3,7 @@ ghost use Rattle.std.specs.Prelude.{◌≡◌, ℕ, ◌<◌, ◌≤◌, ◌++◌
 ghost use Rattle.rules.specs.Books.{entries};
 ghost use Rattle.tableau.specs.Beginning.{first_item, begins, Begins};
 
-use crate::fault::{BeginFault, LentList, ShortFault};
+use crate::fault::{BeginFault, LentList, check_length};
 use crate::limits::MOST_UNTILS;
 use crate::sheets::Sheet;
 use crate::translation::Running;
@@ -27,16 +27,6 @@ fn first_item(root: u8) -> Item
     }
 }
 
-// Writes the nodes on the sheet, and leaves what stands after them.
-fn copy(sheet: &mut [CoreNode], nodes: &[CoreNode])
-    requires { length nodes.now ≤ length sheet.old }
-    ensures { sheet.new ≡ nodes.now ++ drop (length nodes.now) sheet.old }
-{
-    for k in 0..nodes.len() {
-        sheet[k] = nodes[k];
-    }
-}
-
 // Begins the translation of the rule at a place: its core form goes on the sheet, and one item into
 // the pending list.
 pub fn begin(
@@ -53,19 +43,9 @@ pub fn begin(
     if untils > MOST_UNTILS {
         return Err(BeginFault::TooManyUntils(untils));
     }
-    if sheet.len() < nodes.len() {
-        return Err(BeginFault::Short(ShortFault {
-            list: LentList::Sheet,
-            needed: nodes.len(),
-        }));
-    }
-    if pending.is_empty() {
-        return Err(BeginFault::Short(ShortFault {
-            list: LentList::Pending,
-            needed: 1,
-        }));
-    }
-    copy(sheet, nodes);
+    check_length(LentList::Sheet, sheet.len(), nodes.len())?;
+    check_length(LentList::Pending, pending.len(), 1)?;
+    sheet[..nodes.len()].copy_from_slice(nodes);
     pending[0] = first_item(form.root());
     Ok(Running {
         cores: nodes.len() as u8,

@@ -1,5 +1,6 @@
 // Counts of what is in use, and the room there is.
 ghost use Rattle.std.specs.Prelude.{◌≡◌, ◌<◌, ◌≤◌, length};
+ghost use Rattle.std.specs.Result.{result_err};
 ghost use Rattle.tableau.specs.Plans.{new_states, new_arcs, new_items};
 ghost use Rattle.tableau.specs.Rooms.{lack_of, Within};
 
@@ -53,20 +54,20 @@ fn new_items(plan: Plan) -> usize
     }
 }
 
-// The first of the four for which there is no room.
-pub(crate) fn lacking(plan: Plan, counts: Counts, space: Space) -> Option<Lack>
+// Refuses a plan for which there is no room, by the first of the four that lacks.
+pub(crate) fn check_room(plan: Plan, counts: Counts, space: Space) -> Result<(), Lack>
     requires { (Within counts space) × (0 < counts.pending) }
-    ensures { result ≡ lack_of plan counts space }
+    ensures { result_err result ≡ lack_of plan counts space }
 {
     if counts.steps == MOST_STEPS {
-        Some(Lack::Steps)
+        Err(Lack::Steps)
     } else if counts.states + new_states(plan) > space.states {
-        Some(Lack::States)
+        Err(Lack::States)
     } else if counts.arcs + new_arcs(plan) > space.arcs {
-        Some(Lack::Arcs)
+        Err(Lack::Arcs)
     } else if counts.pending - 1 + new_items(plan) > space.pending {
-        Some(Lack::Pending)
+        Err(Lack::Pending)
     } else {
-        None
+        Ok(())
     }
 }

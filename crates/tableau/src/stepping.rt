@@ -1,11 +1,12 @@
 // The steps of a translation.
 ghost use Rattle.std.specs.Prelude.{◌≡◌, ◌≤◌};
+ghost use Rattle.std.specs.Result.{result_err};
 ghost use Rattle.tableau.specs.declared.limits.TheConstants.{MOST_CORES, MOST_STATES, MOST_ARCS, MOST_PENDING};
 ghost use Rattle.tableau.specs.Ends.{standing_of, walk_told};
 ghost use Rattle.tableau.specs.Stepping.{lists, standing, short_list, progress_told, told, Steps};
 ghost use Rattle.tableau.specs.Walks.{Ended};
 
-use crate::fault::{LentList, ShortFault};
+use crate::fault::{LentList, ShortFault, check_length};
 use crate::rooms::Counts;
 use crate::sheets::Sheet;
 use crate::translation::{Finished, Progress, Running, StepRefused};
@@ -13,39 +14,24 @@ use crate::walks::{Outcome, Walk, advance};
 use automata::items::{Arc, Item, State};
 use automata::nodes::CoreNode;
 
-// The first list that is shorter than what the translation uses of it.
-fn short(
+// Refuses the first list that is shorter than what the translation uses of it.
+fn check_lists(
     translation: &Running,
     sheet: &[CoreNode],
     states: &[State],
     arcs: &[Arc],
     pending: &[Item],
-) -> Option<ShortFault>
-    ensures { result ≡ short_list (standing translation.now) (lists sheet.now states.now arcs.now pending.now) }
+) -> Result<(), ShortFault>
+    ensures { result_err result ≡ short_list (standing translation.now) (lists sheet.now states.now arcs.now pending.now) }
 {
-    if sheet.len() < translation.cores as usize {
-        Some(ShortFault {
-            list: LentList::Sheet,
-            needed: translation.cores as usize,
-        })
-    } else if states.len() < translation.states as usize {
-        Some(ShortFault {
-            list: LentList::States,
-            needed: translation.states as usize,
-        })
-    } else if arcs.len() < translation.arcs as usize {
-        Some(ShortFault {
-            list: LentList::Arcs,
-            needed: translation.arcs as usize,
-        })
-    } else if pending.len() < translation.pending as usize {
-        Some(ShortFault {
-            list: LentList::Pending,
-            needed: translation.pending as usize,
-        })
-    } else {
-        None
-    }
+    check_length(LentList::Sheet, sheet.len(), translation.cores as usize)?;
+    check_length(LentList::States, states.len(), translation.states as usize)?;
+    check_length(LentList::Arcs, arcs.len(), translation.arcs as usize)?;
+    check_length(
+        LentList::Pending,
+        pending.len(),
+        translation.pending as usize,
+    )
 }
 
 // A translation that goes on from these counts.
@@ -96,9 +82,9 @@ pub fn step(
 ) -> Result<Progress, StepRefused>
     ensures { Steps (standing translation) (lists sheet.now states.old arcs.old pending.old) allowance (told result) (lists sheet.now states.new arcs.new pending.new) }
 {
-    match short(&translation, sheet, states, arcs, pending) {
-        Some(fault) => Err(StepRefused { translation, fault }),
-        None => {
+    match check_lists(&translation, sheet, states, arcs, pending) {
+        Err(fault) => Err(StepRefused { translation, fault }),
+        Ok(()) => {
             let Running {
                 cores,
                 sets,

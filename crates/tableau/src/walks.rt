@@ -5,7 +5,7 @@ ghost use Rattle.tableau.specs.Walks.{space_of, spent_at, Turned, Walked};
 
 use crate::limits::{MOST_ARCS, MOST_PENDING, MOST_STATES};
 use crate::plans::plan_for;
-use crate::rooms::{Counts, Space, lacking};
+use crate::rooms::{Counts, Space, check_room};
 use crate::sheets::Sheet;
 use crate::translation::Lack;
 use crate::writes::write;
@@ -51,10 +51,8 @@ fn turn(
     let joined = counts.arcs;
     let item = pending[counts.pending - 1];
     let plan = plan_for(sheet, &states[..made], &arcs[..joined], item);
-    match lacking(plan, counts, space) {
-        Some(lack) => Err(lack),
-        None => Ok(write(plan, counts, states, arcs, pending)),
-    }
+    check_room(plan, counts, space)?;
+    Ok(write(plan, counts, states, arcs, pending))
 }
 
 // The allowance is spent.
