@@ -6,7 +6,7 @@ ghost use Rattle.tableau.specs.Beginning.{first_item, begins, Begins};
 use crate::fault::{BeginFault, LentList, check_length};
 use crate::limits::MOST_UNTILS;
 use crate::sheets::Sheet;
-use crate::translation::Running;
+use crate::translation::{Running, Totals};
 use automata::items::Item;
 use automata::nodes::{CoreNode, CoreSet};
 use coreform::form::forming::core_form;
@@ -47,12 +47,12 @@ pub fn begin(
     check_length(LentList::Pending, pending.len(), 1)?;
     sheet[..nodes.len()].copy_from_slice(nodes);
     pending[0] = first_item(form.root());
-    Ok(Running {
+    let totals = Totals {
         cores: nodes.len() as u8,
         sets: untils,
         steps: 0,
         states: 0,
         arcs: 0,
-        pending: 1,
-    })
+    };
+    Ok(Running { totals, pending: 1 })
 }

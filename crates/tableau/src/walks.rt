@@ -1,7 +1,7 @@
 // Step after step, as long as there is room.
 ghost use Rattle.std.specs.Prelude.{◌≡◌, ◌<◌, ◌≤◌, length};
 ghost use Rattle.tableau.specs.Rooms.{Within};
-ghost use Rattle.tableau.specs.Walks.{space_of, spent_at, Turned, Walked};
+ghost use Rattle.tableau.specs.Walks.{space_of, Turned, Walked};
 
 use crate::limits::{MOST_ARCS, MOST_PENDING, MOST_STATES};
 use crate::plans::plan_for;
@@ -11,17 +11,11 @@ use crate::translation::Lack;
 use crate::writes::write;
 use automata::items::{Arc, Item, State};
 
+// Where the steps have stopped, and what there was no room for.
 #[derive(Clone, Copy)]
-pub(crate) enum Outcome {
-    Finished,
-    Running,
-    NoRoom(Lack),
-}
-
-#[derive(Clone, Copy)]
-pub(crate) struct Walk {
+pub(crate) struct Stopped {
     pub counts: Counts,
-    pub outcome: Outcome,
+    pub lack: Option<Lack>,
 }
 
 fn space_in(states: &[State], arcs: &[Arc], pending: &[Item]) -> Space
@@ -55,23 +49,6 @@ fn turn(
     Ok(write(plan, counts, states, arcs, pending))
 }
 
-// The allowance is spent.
-fn spent(counts: Counts) -> Walk
-    ensures { result ≡ spent_at counts }
-{
-    if counts.pending == 0 {
-        Walk {
-            counts,
-            outcome: Outcome::Finished,
-        }
-    } else {
-        Walk {
-            counts,
-            outcome: Outcome::Running,
-        }
-    }
-}
-
 // As many steps as are allowed, until none is pending or there is no room.
 pub(crate) fn advance(
     start: Counts,
@@ -80,30 +57,25 @@ pub(crate) fn advance(
     arcs: &mut [Arc],
     pending: &mut [Item],
     allowance: u16,
-) -> Walk
+) -> Stopped
     requires inside { Within start (space_of states.old arcs.old pending.old) }
     ensures { Walked sheet.now.nodes.now start states.old arcs.old pending.old allowance result states.new arcs.new pending.new }
 {
     let space = space_in(states, arcs, pending);
     let mut counts = start;
-    let mut left = allowance;
-    while left > 0 {
+    for _ in 0..allowance {
         if counts.pending == 0 {
-            return Walk {
-                counts,
-                outcome: Outcome::Finished,
-            };
+            return Stopped { counts, lack: None };
         }
         match turn(counts, space, sheet, states, arcs, pending) {
             Ok(after) => {
                 counts = after;
             }
-            Err(lack) => return Walk {
+            Err(lack) => return Stopped {
                 counts,
-                outcome: Outcome::NoRoom(lack),
+                lack: Some(lack),
             },
         }
-        left -= 1;
     }
-    spent(counts)
+    Stopped { counts, lack: None }
 }

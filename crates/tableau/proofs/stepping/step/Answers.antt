@@ -8,5 +8,5 @@ returns-in-Err c = refused c.in-Err.fault (sym c.in-Err.ensures) refl refl
 
 pub returns-in-Ok : goal.returns-in-Ok
 returns-in-Ok c =
-    steps_are (standing c.args.translation) (lists c.args.sheet.now c.args.states.now c.args.arcs.now c.args.pending.now) c.args.allowance c.advance-walk.result c.advance-walk.new.states
-    c.advance-walk.new.arcs c.advance-walk.new.pending c.advance-walk.ensures c.in-Ok.ensures (progress_told c.progress.result) c.progress.ensures
+    steps_are (standing c.args.translation) (lists c.args.sheet.now c.args.states.now c.args.arcs.now c.args.pending.now) c.args.allowance c.advance-stopped.result c.advance-stopped.new.states
+    c.advance-stopped.new.arcs c.advance-stopped.new.pending c.advance-stopped.ensures c.in-Ok.ensures (progress_told c.progress.result) c.progress.ensures
