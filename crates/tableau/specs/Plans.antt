@@ -51,27 +51,21 @@ planned sheet states arcs i = cond (i.new.bits == 0) (settle_plan sheet states a
 -- ---- what a plan makes of the lists
 -- the states that it adds
 abbrev pub new_states : Plan → List State
-new_states Nothing = []
-new_states (One i) = []
-new_states (Two i j) = []
-new_states (Join a) = []
 new_states (Make s a i) = s ∷ []
+new_states p = []
 
 -- the arcs that it adds
 abbrev pub new_arcs : Plan → List Arc
-new_arcs Nothing = []
-new_arcs (One i) = []
-new_arcs (Two i j) = []
 new_arcs (Join a) = a ∷ []
 new_arcs (Make s a i) = a ∷ []
+new_arcs p = []
 
--- the one to be taken next first
+-- the items that it puts in, the one to be taken next first
 abbrev pub new_items : Plan → List Item
-new_items Nothing = []
 new_items (One i) = i ∷ []
 new_items (Two i j) = i ∷ j ∷ []
-new_items (Join a) = []
 new_items (Make s a i) = i ∷ []
+new_items p = []
 
 -- the config after, with the rest of the pending items
 abbrev pub applied : Plan → List Item → Config → Config
@@ -85,24 +79,18 @@ applied p rest c = record {
 -- ---- what a plan writes: into the place after those in use, and from the place of the last item on
 -- n states are in use
 abbrev pub states_with : Plan → ℕ → List State → List State
-states_with Nothing n xs = xs
-states_with (One i) n xs = xs
-states_with (Two i j) n xs = xs
-states_with (Join a) n xs = xs
 states_with (Make s a i) n xs = slice_set xs n s
+states_with p n xs = xs
 
 -- n arcs are in use
 abbrev pub arcs_with : Plan → ℕ → List Arc → List Arc
-arcs_with Nothing n xs = xs
-arcs_with (One i) n xs = xs
-arcs_with (Two i j) n xs = xs
 arcs_with (Join a) n xs = slice_set xs n a
 arcs_with (Make s a i) n xs = slice_set xs n a
+arcs_with p n xs = xs
 
 -- n items are in use; the last of them is the one taken out, and its place is written first
 abbrev pub items_with : Plan → ℕ → List Item → List Item
-items_with Nothing n xs = xs
 items_with (One i) n xs = slice_set xs (n - 1) i
 items_with (Two i j) n xs = slice_set (slice_set xs (n - 1) j) n i
-items_with (Join a) n xs = xs
 items_with (Make s a i) n xs = slice_set xs (n - 1) i
+items_with p n xs = xs

@@ -22,8 +22,7 @@ fn first_item(root: u8) -> Item
     Item {
         source: 0,
         new,
-        old: CoreSet::default(),
-        next: CoreSet::default(),
+        ..Item::default()
     }
 }
 

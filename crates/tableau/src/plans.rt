@@ -49,12 +49,7 @@ fn drops(sheet: &Sheet<'_>, old: CoreSet, read: Checked) -> bool
 fn with(item: Item, new: CoreSet, next: CoreSet) -> Item
     ensures { result ≡ item_of item.source new item.old next }
 {
-    Item {
-        source: item.source,
-        new,
-        old: item.old,
-        next,
-    }
+    Item { new, next, ..item }
 }
 
 // The items that take the place of an item from which node k was taken.
@@ -96,10 +91,9 @@ fn plan_taken(sheet: &Sheet<'_>, item: Item) -> Plan
         Plan::Nothing
     } else {
         let rest = Item {
-            source: item.source,
             new: remove(item.new, k),
             old: insert(item.old, k),
-            next: item.next,
+            ..item
         };
         split(read, k, rest)
     }

@@ -8,7 +8,6 @@ use crate::plans::plan_for;
 use crate::rooms::{Counts, Space, check_room};
 use crate::sheets::Sheet;
 use crate::translation::Lack;
-use crate::writes::write;
 use automata::items::{Arc, Item, State};
 
 // Where the steps have stopped, and what there was no room for.
@@ -45,8 +44,8 @@ fn turn(
     let joined = counts.arcs;
     let item = pending[counts.pending - 1];
     let plan = plan_for(sheet, &states[..made], &arcs[..joined], item);
-    check_room(plan, counts, space)?;
-    Ok(write(plan, counts, states, arcs, pending))
+    check_room(&plan, counts, space)?;
+    Ok(plan.write(counts, states, arcs, pending))
 }
 
 // As many steps as are allowed, until none is pending or there is no room.
