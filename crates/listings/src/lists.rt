@@ -64,12 +64,15 @@ pub(crate) fn new_lists(heap: Global) -> Result<Lists, AllocError> {
 
 fn told_of(listed: &Listed) -> Told {
     match listed {
-        Listed::Finished(finished) => Told::Automaton {
-            states: finished.states(),
-            arcs: finished.arcs(),
-            sets: finished.mark_sets(),
-            steps: finished.steps(),
-        },
+        Listed::Finished(finished) => {
+            let totals = finished.totals();
+            Told::Automaton {
+                states: totals.states(),
+                arcs: totals.arcs(),
+                sets: totals.mark_sets(),
+                steps: totals.steps(),
+            }
+        }
         Listed::NoRoom(_, lack) => Told::NoRoom(*lack),
     }
 }

@@ -31,10 +31,11 @@ fn tell_automaton(
     states: &[State],
     arcs: &[Arc],
 ) -> io::Result<()> {
-    let made = finished.states();
-    let joined = finished.arcs();
-    let sets = finished.mark_sets();
-    let steps = finished.steps();
+    let totals = finished.totals();
+    let made = totals.states();
+    let joined = totals.arcs();
+    let sets = totals.mark_sets();
+    let steps = totals.steps();
     println!(rt; "A {made} {joined} {sets} {steps}")?;
     tell_states(rt, states, made as usize)?;
     tell_arcs(rt, arcs, joined as usize)

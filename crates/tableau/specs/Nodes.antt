@@ -1,22 +1,10 @@
 -- Nodes as they are read from a sheet.
-use Rattle.std.specs.Prelude.{ℕ, ◌<◌, Bool, true, ◌&&◌, ◌==◌, nat_lt}
+use Rattle.std.specs.Prelude.{ℕ, Bool, true, ◌&&◌, ◌==◌, nat_lt}
 use Rattle.automata.specs.declared.items.Arc.{Arc}
 use Rattle.automata.specs.declared.items.State.{State}
 use Rattle.automata.specs.declared.nodes.CoreSet.{CoreSet}
 use Rattle.automata.specs.declared.nodes.CoreNode.{CoreNode}
 use Rattle.automata.specs.declared.nodes.CoreNode.TheVariants.{True, False, On, Off, Next, And, Or, Until, Release}
-
--- the numbers and signals that it names are below 64
-abbrev pub Sound : CoreNode → Type 0
-Sound True = Unit {0}
-Sound False = Unit {0}
-Sound (On s) = s < 64
-Sound (Off s) = s < 64
-Sound (Next a) = a < 64
-Sound (And a b) = (a < 64) × (b < 64)
-Sound (Or a b) = (a < 64) × (b < 64)
-Sound (Until a b) = (a < 64) × (b < 64)
-Sound (Release a b) = (a < 64) × (b < 64)
 
 -- both numbers are below n
 abbrev pub both_below : ℕ → ℕ → ℕ → Bool

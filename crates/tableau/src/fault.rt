@@ -1,6 +1,7 @@
 // Why begin or step is refused.
 ghost use Rattle.std.specs.Prelude.{◌≡◌};
-ghost use Rattle.tableau.specs.Refusals.{step_number, begin_number};
+ghost use Rattle.std.specs.Result.{result_err};
+ghost use Rattle.tableau.specs.Refusals.{short_of, step_number, begin_number};
 ghost use Rattle.tableau.specs.declared.fault.BeginFault.TheVariants.{Form as NoForm, Short as TooShort};
 
 use coreform::form::FormFault;
@@ -27,6 +28,17 @@ impl ShortFault {
         ensures { result ≡ step_number self.now }
     {
         11
+    }
+}
+
+// Refuses a list that is shorter than needed.
+pub(crate) fn check_length(list: LentList, length: usize, needed: usize) -> Result<(), ShortFault>
+    ensures { result_err result ≡ short_of list length needed }
+{
+    if length < needed {
+        Err(ShortFault { list, needed })
+    } else {
+        Ok(())
     }
 }
 
