@@ -2,7 +2,7 @@
 ghost use Rattle.std.specs.Prelude.{◌≡◌};
 ghost use Rattle.rules.specs.Decoding.{decoded, place};
 
-use crate::command::{Command, command_at, command_length, operand};
+use crate::command::{Command, command_length, operand};
 use crate::fault::EnterFault;
 use crate::node::{Node, Place};
 
@@ -23,10 +23,7 @@ pub(crate) fn decode(bytes: &[u8]) -> Result<(Node, usize), EnterFault>
     let [byte, rest @ ..] = bytes else {
         return Err(EnterFault::Truncated);
     };
-    let Some(command) = command_at(*byte) else {
-        return Err(EnterFault::UnknownCommand(*byte));
-    };
-    let node = match command {
+    let node = match Command::try_from(*byte)? {
         Command::Plain(node) => node,
         Command::Signal => {
             let [high, low, ..] = rest else {
@@ -45,14 +42,10 @@ pub(crate) fn decode(bytes: &[u8]) -> Result<(Node, usize), EnterFault>
             Node::Unary(op, place_at(*high, *low))
         }
         Command::Binary(op) => {
-            let [high, low, more @ ..] = rest else {
+            let [high, low, next_high, next_low, ..] = rest else {
                 return Err(EnterFault::Truncated);
             };
-            let a = place_at(*high, *low);
-            let [high, low, ..] = more else {
-                return Err(EnterFault::Truncated);
-            };
-            Node::Binary(op, a, place_at(*high, *low))
+            Node::Binary(op, place_at(*high, *low), place_at(*next_high, *next_low))
         }
     };
     Ok((node, command_length(*byte)))

@@ -109,10 +109,8 @@ fn enter_at<'a>(
     ensures { MatchResult result (λ p. Enters book.old (drop start file.now) (Ok p) book.new) (λ e. Enters book.old (drop start file.now) (Err e.fault) book.new × (e.start ≡ start) × (e.rest.now ≡ drop start file.now)) }
 {
     let rest = &file[start..];
-    match book.enter(rest) {
-        Ok(entered) => Ok(entered),
-        Err(fault) => Err(CommandFault { fault, start, rest }),
-    }
+    book.enter(rest)
+        .map_err(|fault| CommandFault { fault, start, rest })
 }
 
 // Enters the commands of a rule file in turn, and answers the place of the rule, which is its last command.

@@ -17,10 +17,7 @@ impl Book {
         match node {
             Node::True | Node::False | Node::Signal(_) => None,
             Node::Unary(_, a) => self.unless_entered(a),
-            Node::Binary(_, a, b) => match self.unless_entered(a) {
-                Some(a) => Some(a),
-                None => self.unless_entered(b),
-            },
+            Node::Binary(_, a, b) => self.unless_entered(a).or_else(|| self.unless_entered(b)),
         }
     }
 
