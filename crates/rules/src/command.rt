@@ -8,6 +8,7 @@ use crate::fault::EnterFault;
 use crate::node::{BinaryOp, Node, UnaryOp};
 
 // How many bytes the command has that begins with a byte, or 0 where none does.
+// Kept: a rule of the project, by which the lengths stand in a constant array.
 const LENGTHS: [u8; 256] = [
     1, 1, 0, 0, 0, 0, 0, 0, 0, 0, 0, 0, 0, 0, 0, 0, 3, 3, 3, 3, 3, 0, 0, 0, 0, 0, 0, 0, 0, 0, 0, 0,
     5, 5, 5, 5, 5, 5, 5, 5, 5, 0, 0, 0, 0, 0, 0, 0, 0, 0, 0, 0, 0, 0, 0, 0, 0, 0, 0, 0, 0, 0, 0, 0,

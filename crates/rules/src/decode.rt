@@ -6,14 +6,16 @@ use crate::command::{Command, command_length, operand};
 use crate::fault::EnterFault;
 use crate::node::{Node, Place};
 
+// The greatest number of a signal.
 const LAST_SIGNAL: u16 = 63;
 
 // The place that two bytes say.
 fn place_at(high: u8, low: u8) -> Place
     ensures { result ≡ place high low }
 {
-    let index = operand(high, low);
-    Place { index }
+    Place {
+        index: operand(high, low),
+    }
 }
 
 // The node that the first command says, and how long the command is.

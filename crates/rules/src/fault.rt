@@ -22,6 +22,7 @@ pub enum EnterFault {
 
 impl EnterFault {
     /// The number of the refusal, 2 to 6.
+    // Kept: a public promise, and docs/REFUSALS.md lists the numbers.
     pub fn number(&self) -> u8
         ensures { result ≡ enter_number self.now }
     {
