@@ -7,7 +7,7 @@ use rules::node::Place;
 use rules::table::ROOM;
 
 // For each place the number of its core form, and of its denial's.
-// Kept: the new form is no plainer, since of an array of pairs the polarity still chooses a part.
+// Kept: tried as `[[Option<u8>; 2]; ROOM]`; the proof of `set` lacks the inner array's length.
 #[derive(Drop)]
 pub struct Numbers {
     held: [Option<u8>; ROOM],

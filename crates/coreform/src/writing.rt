@@ -79,6 +79,7 @@ impl<'a> Writer<'a> {
         }
         let recipe = recipe_of(self.book.nodes()[place.index as usize], polarity);
         let steps = recipe.steps();
+        // Kept: no heap; a crate for a list in an array is no plainer for this one local.
         let mut made = [0u8; MOST_STEPS];
         for (at, step) in steps.iter().enumerate() {
             made[at] = match *step {
