@@ -23,6 +23,7 @@ pub struct State {
 }
 
 /// An arc from a state, or from the start, which is 0, to a state, by their numbers.
+// Kept: a public promise; the definitions under the law and what is printed have 0 for the start.
 #[derive(Clone, Copy, PartialEq, Eq, Debug, Default)]
 pub struct Arc {
     pub from: u32,

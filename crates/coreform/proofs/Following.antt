@@ -2,12 +2,12 @@
 use Rattle.std.proofs.Common.{◌≡◌, ℕ, ◌+◌, ◌-◌, ◌<◌, ◌≤◌, Bool, List, [], ◌∷◌, ◌++◌, length, get_or, drop, take, set, sym, refl, ap, ◌∙◌, arith}
 use Rattle.std.proofs.lemmas.List.{drop_more, take_more_set, at_drop_all, get_or-take}
 use Rattle.automata.specs.Cores.{Core, core_of}
-use Rattle.automata.specs.Sheets.{put, write}
+use Rattle.automata.specs.Sheets.{write}
 use Rattle.automata.specs.declared.nodes.CoreNode.{CoreNode}
 use Rattle.automata.proofs.Again.{Begins, begins_long, put_begins, write_begins}
 use Rattle.coreform.specs.Recipes.{node_over, stepped, made, recipe_of}
 use Rattle.coreform.specs.declared.recipe.Step.{Step}
-use Rattle.coreform.specs.declared.recipe.Step.TheVariants.{Write, Leaf, Next, Join}
+use Rattle.coreform.specs.declared.recipe.Step.TheVariants.{Write, Put}
 use Rattle.coreform.proofs.Right.{written, recipe_right, writes_lower}
 use Rattle.rules.specs.Tables.{Ordered}
 use Rattle.rules.specs.declared.node.Node.{Node}
@@ -33,18 +33,10 @@ module _ (book nodes : List Node) (ordered : Ordered book) (same : nodes ≡ boo
   recipe_lower i d a q l e = writes_lower k (get_or book k True) p (ordered k inside) i d a q (omega (arith, ap length are_here)) (sym (ap (λ ss. get_or ss i d) are_here) ∙ e)
 
 module _ (rule : ℕ → Rule) where
-  pub stepped_puts : (s : Step) (ns : List ℕ) (sheet : List CoreNode) → ((a : Place) (p : Bool) → s ≡ Write a p → ⊥) → stepped rule s ns sheet ≡ put (node_over s ns) sheet
-  stepped_puts (Write a p) ns sheet n = absurd (n a p refl)
-  stepped_puts (Leaf x) ns sheet n = refl
-  stepped_puts (Next i) ns sheet n = refl
-  stepped_puts (Join j i k) ns sheet n = refl
-
   -- the sheet only grows
   stepped_begins : (s : Step) (ns : List ℕ) (sheet : List CoreNode) → Begins sheet (stepped rule s ns sheet).sheet
   stepped_begins (Write a p) ns sheet = write_begins (core_of (rule a.index) p) sheet
-  stepped_begins (Leaf n) ns sheet = put_begins n sheet
-  stepped_begins (Next i) ns sheet = put_begins _ sheet
-  stepped_begins (Join j i k) ns sheet = put_begins _ sheet
+  stepped_begins (Put node) ns sheet = put_begins (node_over node ns) sheet
 
   made_long : (ss : List Step) (ns : List ℕ) (sheet : List CoreNode) → length sheet ≤ length (made rule ss ns sheet).sheet
   made_long [] ns sheet = omega arith

@@ -6,5 +6,4 @@ pub mod draft;
 pub mod form;
 pub mod numbers;
 pub mod recipe;
-pub mod remembering;
 pub mod writing;

@@ -7,28 +7,15 @@ use automata::nodes::CoreNode;
 use rules::node::Place;
 use std::marker::Model;
 
-// A core node of two operands.
-// Kept: it is matched once, and closures in its place would be handed out with the recipe.
-#[derive(Clone, Copy)]
-pub enum Joint {
-    And,
-    Or,
-    Until,
-    Release,
-}
-
-// Kept: closures as steps are refused by a rule of the project, as functions that hand them out.
 // One step; the numbers that the steps before it answered are counted from 0.
+// Kept: closures as steps are refused by a rule of the project, as functions that hand them out.
 #[derive(Clone, Copy)]
 pub enum Step {
     // write the rule at a place (true), or its denial (false)
     // Kept: an enum of polarities is no plainer, for `core_of` and its laws take a Bool.
     Write(Place, bool),
-    // put a node without operands
-    Leaf(CoreNode),
-    // put a node over the numbers of earlier steps
-    Next(u8),
-    Join(Joint, u8, u8),
+    // put a node, whose operands are given by the steps that answered their numbers
+    Put(CoreNode),
 }
 
 // How many steps a recipe may have.
@@ -55,7 +42,7 @@ impl Recipe {
         requires { (0 < length given.now) × (length given.now ≤ MOST_STEPS) }
         ensures { result ≡ given.now }
     {
-        let mut steps = [Step::Leaf(CoreNode::False); MOST_STEPS];
+        let mut steps = [Step::Put(CoreNode::False); MOST_STEPS];
         let count = given.len();
         steps[..count].copy_from_slice(given);
         Recipe { steps, count }

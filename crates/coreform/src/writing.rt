@@ -1,45 +1,30 @@
 // Writing the core form of the rule at a place, each place and polarity once.
 ghost use Rattle.std.specs.Prelude.{◌≡◌, ◌<◌, [], length, slice_index, IfSome};
 ghost use Rattle.automata.specs.Cores.{core_of};
-ghost use Rattle.coreform.specs.Recipes.{joined, node_over};
+ghost use Rattle.coreform.specs.Recipes.{node_over};
 ghost use Rattle.coreform.specs.Writing.{Known, Writes};
 ghost use Rattle.semantics.specs.Rules.{rule_at};
 
 use crate::cookbook::recipe_of;
 use crate::draft::Draft;
 use crate::numbers::Numbers;
-use crate::recipe::{Joint, MOST_STEPS, Step};
+use crate::recipe::{MOST_STEPS, Step};
 use automata::nodes::CoreNode;
 use rules::book::Book;
 use rules::node::Place;
 
-fn joined(joint: Joint, a: u8, b: u8) -> CoreNode
-    ensures { result ≡ joined joint a b }
+// A node over the numbers that earlier steps answered, instead of the steps.
+fn node_over(node: CoreNode, made: &[u8]) -> CoreNode
+    ensures { result ≡ node_over node made.now }
 {
-    match joint {
-        Joint::And => CoreNode::And(a, b),
-        Joint::Or => CoreNode::Or(a, b),
-        Joint::Until => CoreNode::Until(a, b),
-        Joint::Release => CoreNode::Release(a, b),
-    }
-}
-
-// The number of an earlier step.
-fn number_at(made: &[u8], step: u8) -> u8
-    ensures { result ≡ slice_index made.now step }
-{
-    made.get(step as usize).copied().unwrap_or(0)
-}
-
-// The node that a step puts over the numbers of the steps before it.
-fn node_over(step: Step, made: &[u8]) -> CoreNode
-    ensures { result ≡ node_over step made.now }
-{
-    match step {
-        Step::Write(_, _) => CoreNode::False,
-        Step::Leaf(leaf) => leaf,
-        Step::Next(i) => CoreNode::Next(number_at(made, i)),
-        Step::Join(joint, i, j) => joined(joint, number_at(made, i), number_at(made, j)),
+    let number = |step: u8| made.get(step as usize).copied().unwrap_or(0);
+    match node {
+        CoreNode::True | CoreNode::False | CoreNode::On(_) | CoreNode::Off(_) => node,
+        CoreNode::Next(i) => CoreNode::Next(number(i)),
+        CoreNode::And(i, j) => CoreNode::And(number(i), number(j)),
+        CoreNode::Or(i, j) => CoreNode::Or(number(i), number(j)),
+        CoreNode::Until(i, j) => CoreNode::Until(number(i), number(j)),
+        CoreNode::Release(i, j) => CoreNode::Release(number(i), number(j)),
     }
 }
 
@@ -79,11 +64,12 @@ impl<'a> Writer<'a> {
         }
         let recipe = recipe_of(self.book.nodes()[place.index as usize], polarity);
         let steps = recipe.steps();
+        // Kept: no heap; a crate for a list in an array is no plainer for this one local.
         let mut made = [0u8; MOST_STEPS];
         for (at, step) in steps.iter().enumerate() {
             made[at] = match *step {
                 Step::Write(a, p) => self.write(a, p)?,
-                _ => self.draft.put(node_over(*step, &made[..at]))?,
+                Step::Put(node) => self.draft.put(node_over(node, &made[..at]))?,
             };
         }
         let number = made[steps.len() - 1];

@@ -5,11 +5,11 @@ use Rattle.automata.proofs.Again.{Begins, put_begins, stays_here}
 use Rattle.coreform.specs.Recipes.{stepped}
 use Rattle.coreform.specs.declared.recipe.Step.{Step}
 use Rattle.coreform.specs.declared.recipe.Step.TheVariants.{Write}
-use Rattle.coreform.proofs.Following.{recipe_writes, recipe_lower, stepped_puts, reached_end, reached_more, too_long}
+use Rattle.coreform.proofs.Following.{recipe_writes, recipe_lower, reached_end, reached_more, too_long}
 use Rattle.coreform.proofs.Memory.{known_grows, known_more, stands_written}
 use Rattle.semantics.specs.Rules.{rule_at}
 use Rattle.coreform.proofs.writing.Writer.+write.Goals as goal
-use Rattle.coreform.proofs.writing.Writer.+write.Goals.{in-Write+in_ok-write-in-Write, in_default-step+in_ok-made-in_default-step}
+use Rattle.coreform.proofs.writing.Writer.+write.Goals.{in-Write+in_ok-write-in-Write, in-Put+in_ok-made-in-Put}
 
 -- what the code reads past the last step
 abbrev no_step : Step
@@ -35,18 +35,13 @@ returns-in_err-write-in-Write-clause-writes t c =
     let lost : 64 < length (stepped (rule_at book) (get_or c.steps-steps.result.now c.loop-at.at no_step) (take c.loop-at.at c.loop-at.made) c.loop-at.self.draft).sheet = rw (c.in-Write.is, ← inv.book) c.in_err-write-in-Write.ensures.writes in
     rw c.from_residual.ensures (too_long (rule_at book) _ _ c.loop-at.at c.loop-at.made c.loop-at.self.draft inv.reached no_step c.loop-at-test.true _ whole 64 lost)
 
-pub returns-in_err-made-in_default-step : goal.returns-in_err-made-in_default-step
-returns-in_err-made-in_default-step t c =
+pub returns-in_err-made-in-Put-clause-writes : goal.returns-in_err-made-in-Put-clause-writes
+returns-in_err-made-in-Put-clause-writes t c =
     let book = c.args.self.now.book.now in
     let inv = c.loop-at.invariant in
     let whole = recipe_writes book _ c.nodes.ensures.sound.ordered c.nodes.ensures.nodes c.args.place.index c.requires.entered c.args.polarity _ (c.steps-steps.ensures.steps ∙ c.recipe_of-recipe.ensures) c.args.self.now.draft in
-    let puts = stepped_puts (rule_at book) _ (take c.loop-at.at c.loop-at.made) c.loop-at.self.draft c.in_default-step.not-Write ∙ ap (λ n. put n c.loop-at.self.draft) (sym c.node_over.ensures) in
-    let lost = c.in_err-made-in_default-step.ensures in
-    rw c.from_residual-in_err-made-in_default-step.ensures record {
-      writes = too_long (rule_at book) _ _ c.loop-at.at c.loop-at.made c.loop-at.self.draft inv.reached no_step c.loop-at-test.true _ whole 64 (omega (arith, ap (λ w. length w.sheet) puts, lost));
-      known = tt;
-      book = inv.book;
-    }
+    let lost : 64 < length (stepped (rule_at book) (get_or c.steps-steps.result.now c.loop-at.at no_step) (take c.loop-at.at c.loop-at.made) c.loop-at.self.draft).sheet = rw (c.in-Put.is, ← c.node_over.ensures) c.in_err-made-in-Put.ensures in
+    rw c.from_residual-in_err-made-in-Put.ensures (too_long (rule_at book) _ _ c.loop-at.at c.loop-at.made c.loop-at.self.draft inv.reached no_step c.loop-at-test.true _ whole 64 lost)
 
 pub loop-at-preserved : goal.loop-at-preserved
 loop-at-preserved t c =
@@ -66,9 +61,9 @@ loop-at-preserved t c =
             book = w.write.ensures.book ∙ inv.book;
             long = length-set list at _ ∙ inv.long;
           }
-      | in_default-step+in_ok-made-in_default-step w ↦
-          let wrote = w.in_ok-made-in_default-step.ensures in
-          let puts = stepped_puts rule _ (take at list) draft w.in_default-step.not-Write ∙ ap (λ n. put n draft) (sym w.node_over.ensures) in
+      | in-Put+in_ok-made-in-Put w ↦
+          let wrote = w.in_ok-made-in-Put.ensures in
+          let puts = ap (λ s. stepped rule s (take at list) draft) w.in-Put.is ∙ ap (λ n. put n draft) (sym w.node_over.ensures) in
           rw (w.self-is, w.made-is) record {
             reached = more w.put.new.self _ (omega (arith, inv.long)) (puts ∙ wrote);
             known = known_grows _ draft w.put.new.self c.loop-at.self.numbers (subst (Begins draft) (ap (λ w. w.sheet) wrote) (put_begins _ draft)) inv.known;
