@@ -2,6 +2,7 @@
 use crate::nodes::CoreSet;
 
 // An item that is still to be worked on, on behalf of its source: 0 for the start, else a state's number.
+// Kept: 0 and no Option, since the definitions under the law and the printed arcs say 0 for the start.
 #[derive(Clone, Copy, PartialEq, Eq, Debug, Default)]
 pub struct Item {
     pub source: u32,
