@@ -1,107 +1,65 @@
 // The recipe of each node.
-ghost use Rattle.std.specs.Prelude.{◌≡◌, [], ◌∷◌, take};
+ghost use Rattle.std.specs.Prelude.{◌≡◌, [], ◌∷◌};
 ghost use Rattle.coreform.specs.Recipes.{pair, fixed, guard, twins, unary_recipe, binary_recipe, recipe_of};
 
 use crate::recipe::{Joint, Recipe, Step};
 use automata::nodes::CoreNode;
 use rules::node::{BinaryOp, Node, Place, UnaryOp};
 
-const NOTHING: Step = Step::Leaf(CoreNode::False);
-
 fn one(step: Step) -> Recipe
-    ensures { take result.count result.steps ≡ step ∷ [] }
+    ensures { result ≡ step ∷ [] }
 {
-    Recipe {
-        steps: [step, NOTHING, NOTHING, NOTHING, NOTHING, NOTHING, NOTHING],
-        count: 1,
-    }
+    Recipe::new(&[step])
 }
 
 fn pair(joint: Joint, a: Place, p: bool, b: Place, q: bool) -> Recipe
-    ensures { take result.count result.steps ≡ pair joint a p b q }
+    ensures { result ≡ pair joint a p b q }
 {
-    Recipe {
-        steps: [
-            Step::Write(a, p),
-            Step::Write(b, q),
-            Step::Join(joint, 0, 1),
-            NOTHING,
-            NOTHING,
-            NOTHING,
-            NOTHING,
-        ],
-        count: 3,
-    }
+    Recipe::new(&[
+        Step::Write(a, p),
+        Step::Write(b, q),
+        Step::Join(joint, 0, 1),
+    ])
 }
 
 fn fixed(leaf: CoreNode, joint: Joint, a: Place, p: bool) -> Recipe
-    ensures { take result.count result.steps ≡ fixed leaf joint a p }
+    ensures { result ≡ fixed leaf joint a p }
 {
-    Recipe {
-        steps: [
-            Step::Leaf(leaf),
-            Step::Write(a, p),
-            Step::Join(joint, 0, 1),
-            NOTHING,
-            NOTHING,
-            NOTHING,
-            NOTHING,
-        ],
-        count: 3,
-    }
+    Recipe::new(&[Step::Leaf(leaf), Step::Write(a, p), Step::Join(joint, 0, 1)])
 }
 
 fn guard(outer: Joint, inner: Joint, a: Place, b: Place, p: bool) -> Recipe
-    ensures { take result.count result.steps ≡ guard outer inner a b p }
+    ensures { result ≡ guard outer inner a b p }
 {
-    Recipe {
-        steps: [
-            Step::Write(b, p),
-            Step::Write(a, p),
-            Step::Write(b, p),
-            Step::Join(inner, 1, 2),
-            Step::Join(outer, 0, 3),
-            NOTHING,
-            NOTHING,
-        ],
-        count: 5,
-    }
+    Recipe::new(&[
+        Step::Write(b, p),
+        Step::Write(a, p),
+        Step::Write(b, p),
+        Step::Join(inner, 1, 2),
+        Step::Join(outer, 0, 3),
+    ])
 }
 
 fn twins(a: Place, b: Place, q: bool) -> Recipe
-    ensures { take result.count result.steps ≡ twins a b q }
+    ensures { result ≡ twins a b q }
 {
-    Recipe {
-        steps: [
-            Step::Write(a, true),
-            Step::Write(b, q),
-            Step::Join(Joint::And, 0, 1),
-            Step::Write(a, false),
-            Step::Write(b, !q),
-            Step::Join(Joint::And, 3, 4),
-            Step::Join(Joint::Or, 2, 5),
-        ],
-        count: 7,
-    }
+    Recipe::new(&[
+        Step::Write(a, true),
+        Step::Write(b, q),
+        Step::Join(Joint::And, 0, 1),
+        Step::Write(a, false),
+        Step::Write(b, !q),
+        Step::Join(Joint::And, 3, 4),
+        Step::Join(Joint::Or, 2, 5),
+    ])
 }
 
 fn unary_recipe(op: UnaryOp, p: bool, a: Place) -> Recipe
-    ensures { take result.count result.steps ≡ unary_recipe op p a }
+    ensures { result ≡ unary_recipe op p a }
 {
     match (op, p) {
         (UnaryOp::Not, _) => one(Step::Write(a, !p)),
-        (UnaryOp::Next, _) => Recipe {
-            steps: [
-                Step::Write(a, p),
-                Step::Next(0),
-                NOTHING,
-                NOTHING,
-                NOTHING,
-                NOTHING,
-                NOTHING,
-            ],
-            count: 2,
-        },
+        (UnaryOp::Next, _) => Recipe::new(&[Step::Write(a, p), Step::Next(0)]),
         (UnaryOp::Eventually, true) => fixed(CoreNode::True, Joint::Until, a, p),
         (UnaryOp::Eventually, false) => fixed(CoreNode::False, Joint::Release, a, p),
         (UnaryOp::Always, true) => fixed(CoreNode::False, Joint::Release, a, p),
@@ -110,7 +68,7 @@ fn unary_recipe(op: UnaryOp, p: bool, a: Place) -> Recipe
 }
 
 fn binary_recipe(op: BinaryOp, p: bool, a: Place, b: Place) -> Recipe
-    ensures { take result.count result.steps ≡ binary_recipe op p a b }
+    ensures { result ≡ binary_recipe op p a b }
 {
     match (op, p) {
         (BinaryOp::And, true) => pair(Joint::And, a, true, b, true),
@@ -134,7 +92,7 @@ fn binary_recipe(op: BinaryOp, p: bool, a: Place, b: Place) -> Recipe
 
 // The steps that write the core form of a node (true), or of its denial (false).
 pub(crate) fn recipe_of(node: Node, p: bool) -> Recipe
-    ensures { take result.count result.steps ≡ recipe_of node p }
+    ensures { result ≡ recipe_of node p }
 {
     match (node, p) {
         (Node::True, true) | (Node::False, false) => one(Step::Leaf(CoreNode::True)),

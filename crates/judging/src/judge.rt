@@ -1,6 +1,5 @@
 // Judging the rule at a place of a book on a recording.
 ghost use Rattle.std.specs.Prelude.{◌≡◌, ℕ, ◌+◌, ◌*◌, ◌<◌, ◌≤◌, length, drop, slice_index};
-ghost use Rattle.rules.specs.Books.{entries};
 ghost use Rattle.judging.specs.Judging.{Judges};
 ghost use Rattle.judging.specs.Tabled.{Tabled};
 
@@ -13,18 +12,16 @@ use rules::node::Place;
 
 // Fills the columns of all places up to this one, in their order, in a cleared list.
 fn fill_table<R: Recording>(book: &Book, place: Place, recording: &R, work: &mut [u64])
-    requires entered { place.index < length (entries book.now) }
+    requires entered { place.index < length book.now }
     requires enough { 4 * length (R.meaning recording.now).words ≤ length work.old }
     requires cleared { (k : ℕ) → k < 4 * length (R.meaning recording.now).words → slice_index work.old k ≡ 0 }
-    ensures table { Tabled (entries book.now) (R.meaning recording.now) (place.index + 1) work.new }
+    ensures table { Tabled book.now (R.meaning recording.now) (place.index + 1) work.new }
     ensures rest { drop (4 * length (R.meaning recording.now).words) work.new ≡ drop (4 * length (R.meaning recording.now).words) work.old }
 {
+    let nodes = book.nodes();
     let end = place.index + 1;
     for index in 0..end {
-        let at = Place { index };
-        if let Some(node) = book.get(at) {
-            fill_column(node, at, recording, work);
-        }
+        fill_column(nodes[index as usize], Place { index }, recording, work);
     }
 }
 
@@ -35,7 +32,7 @@ pub fn judge<R: Recording>(
     recording: &R,
     work: &mut [u64],
 ) -> Result<bool, JudgeFault>
-    ensures { Judges (entries book.now) place (R.meaning recording.now) work.old result work.new }
+    ensures { Judges book.now place (R.meaning recording.now) work.old result work.new }
 {
     if place.index as usize >= book.len() {
         return Err(JudgeFault::NotInBook(place));

@@ -1,6 +1,5 @@
 // The verdict on one recording.
 ghost use Rattle.std.specs.Prelude.{IfOk};
-ghost use Rattle.rules.specs.Books.{entries};
 ghost use Rattle.models.specs.PackedWords.{packed_check, of_packed};
 ghost use Rattle.models.specs.EdgeWords.{edges_check, of_edges};
 ghost use Rattle.linecheck.specs.Reports.{Says, Passes, Reports, check_of, lasso_of};
@@ -39,7 +38,7 @@ fn holds<R: Recording>(
     place: Place,
     recording: &R,
 ) -> Result<bool, NoVerdict>
-    ensures { IfOk result (λ yes. Says (entries book.now) place (R.meaning recording.now) yes) }
+    ensures { IfOk result (λ yes. Says book.now place (R.meaning recording.now) yes) }
 {
     let needed = WORDS_PER_SCAN * recording.count();
     let mut work = vec![in heap; 0; needed]?;
@@ -56,7 +55,7 @@ fn judge_packed(
     loop_start: usize,
 ) -> Result<Judged, NoVerdict>
     ensures passes { Passes (packed_check words.now loop_start) result }
-    ensures verdict { IfOk result (λ told. Reports (entries book.now) place (of_packed words.now loop_start) told) }
+    ensures verdict { IfOk result (λ told. Reports book.now place (of_packed words.now loop_start) told) }
 {
     Packed::check(words, loop_start)?;
     let recording = Packed::new(words, loop_start);
@@ -79,7 +78,7 @@ fn judge_edges(
     loop_start: usize,
 ) -> Result<Judged, NoVerdict>
     ensures passes { Passes (edges_check edges.now scans loop_start) result }
-    ensures verdict { IfOk result (λ told. Reports (entries book.now) place (of_edges edges.now scans loop_start) told) }
+    ensures verdict { IfOk result (λ told. Reports book.now place (of_edges edges.now scans loop_start) told) }
 {
     Edges::check(edges, scans, loop_start)?;
     let recording = Edges::new(edges, scans, loop_start);
@@ -100,7 +99,7 @@ pub(crate) fn verdict(
     recorded: &Recorded,
 ) -> Result<Judged, NoVerdict>
     ensures passes { Passes (check_of recorded.now) result }
-    ensures verdict { IfOk result (λ told. Reports (entries book.now) place (lasso_of recorded.now) told) }
+    ensures verdict { IfOk result (λ told. Reports book.now place (lasso_of recorded.now) told) }
 {
     match recorded {
         Recorded::Packed { words, loop_start } => judge_packed(

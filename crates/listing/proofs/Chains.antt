@@ -16,8 +16,8 @@ use Rattle.rules.specs.Reading.{Reads, wrong_size, refused as refused_at}
 use Rattle.rules.specs.declared.reading.ReadFault.{ReadFault}
 use Rattle.rules.specs.declared.reading.ReadFault.TheVariants.{FileSize, Command as AtCommand}
 use Rattle.listing.specs.Listing.{Listing, unread}
-use Rattle.listing.specs.Refusals.{file_fault}
-use Rattle.listing.specs.declared.fault.FileFault.TheVariants.{Size, Command}
+use Rattle.rules.specs.Refusals.{file_fault}
+use Rattle.rules.specs.declared.reading.FileFault.TheVariants.{Size, Command}
 use Rattle.listing.specs.declared.fault.ListFault.{ListFault}
 use Rattle.listing.specs.declared.fault.ListFault.TheVariants.{Read}
 use Rattle.listing.specs.declared.outcome.Listed.{Listed}

@@ -10,7 +10,7 @@ use Rattle.tableau.specs.Beginning.{Begins}
 use Rattle.tableau.specs.Stepping.{Lists, lists, Standing, standing, ended, Answer, refusal, progress, lacking_of, Steps}
 use Rattle.tableau.specs.declared.fault.BeginFault.{BeginFault}
 use Rattle.listing.specs.Refusals.{told_of, Sized}
-use Rattle.listing.specs.declared.fault.FileFault.{FileFault}
+use Rattle.rules.specs.declared.reading.FileFault.{FileFault}
 use Rattle.listing.specs.declared.fault.ListFault.{ListFault}
 use Rattle.listing.specs.declared.fault.ListFault.TheVariants.{Read, Begin}
 use Rattle.listing.specs.declared.outcome.Listed.{Listed}

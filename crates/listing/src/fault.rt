@@ -1,22 +1,14 @@
 // Why there is no automaton of a rule file.
 ghost use Rattle.std.specs.Prelude.{◌≡◌};
-ghost use Rattle.listing.specs.Refusals.{file_fault, list_number, list_start};
+ghost use Rattle.listing.specs.Refusals.{list_number, list_start};
+ghost use Rattle.rules.specs.Refusals.{file_fault};
 ghost use Rattle.listing.specs.declared.fault.ListFault.TheVariants.{Read as AtRead, Begin as AtBegin};
 
-use rules::fault::EnterFault;
+pub use rules::reading::FileFault;
 use rules::reading::ReadFault;
 use tableau::fault::BeginFault;
 
-// Why reading refuses a file, without the file's bytes.
-#[derive(Clone, Copy)]
-pub enum FileFault {
-    // 1: the file has this many bytes, which are none or too many
-    Size(usize),
-    // the command that starts at this byte is refused
-    Command { start: usize, fault: EnterFault },
-}
-
-// The stage that refuses, and why.
+/// The stage that refuses, and why (docs/REFUSALS.md).
 #[derive(Clone, Copy)]
 pub enum ListFault {
     Read(FileFault),
@@ -27,13 +19,7 @@ impl From<ReadFault<'_>> for ListFault {
     ghost from_gives = { λ x y. y ≡ AtRead (file_fault x) };
 
     fn from(fault: ReadFault<'_>) -> ListFault {
-        match fault {
-            ReadFault::FileSize(file) => ListFault::Read(FileFault::Size(file.len())),
-            ReadFault::Command(command) => ListFault::Read(FileFault::Command {
-                start: command.start,
-                fault: command.fault,
-            }),
-        }
+        ListFault::Read(FileFault::from(fault))
     }
 }
 
@@ -46,24 +32,23 @@ impl From<BeginFault> for ListFault {
 }
 
 impl ListFault {
-    // The number of the refusal.
+    /// The number of the refusal: 1 to 6 of reading, 7, 8, 9 or 11 of beginning.
     pub fn number(&self) -> u8
         ensures { result ≡ list_number self.now }
     {
         match *self {
-            ListFault::Read(FileFault::Size(_)) => 1,
-            ListFault::Read(FileFault::Command { start: _, fault }) => fault.number(),
+            ListFault::Read(fault) => fault.number(),
             ListFault::Begin(fault) => fault.number(),
         }
     }
 
-    // The byte where the refused command starts, and 0 where no command is refused.
+    /// The byte of the file, counted from 0, where the refused command starts, and 0 where no command is refused.
     pub fn start(&self) -> usize
         ensures { result ≡ list_start self.now }
     {
         match *self {
-            ListFault::Read(FileFault::Command { start, fault: _ }) => start,
-            _ => 0,
+            ListFault::Read(fault) => fault.start(),
+            ListFault::Begin(_) => 0,
         }
     }
 }

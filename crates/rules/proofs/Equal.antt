@@ -1,11 +1,12 @@
 -- Nodes are equal exactly where `same` says so, and where a node stands in a list.
-use Rattle.std.proofs.Common.{◌≡◌, ℕ, zero, suc, ◌+◌, ◌<◌, Bool, true, false, ◌&&◌, eqb, List, [], ◌∷◌, length, get_or, drop, Some, None, Decides, Option, sym, refl, ap, ◌∙◌, ⊎_elim, arith}
-use Rattle.std.proofs.lemmas.List.{drop_more}
+use Rattle.std.proofs.Common.{◌≡◌, ℕ, zero, suc, ◌+◌, ◌<◌, Bool, cond, ◌&&◌, eqb, List, [], ◌∷◌, length, get_or, Some, None, Decides, Option, sym, refl, ap, ◌∙◌, ⊎_elim, arith}
 use Rattle.std.proofs.lemmas.Bool.{eqb-true, eq-eqb, and_parts, and_from, cond-true, cond-false, cases_Bool}
 use Rattle.std.proofs.lemmas.Bool.Decides.{same_from_decides}
+use Rattle.std.proofs.lemmas.Iterator.Adapters.{position_from-zero}
+use Rattle.std.specs.List.{position, position_from}
 use Rattle.rules.specs.Commands.{command_of}
 use Rattle.rules.specs.Entering.{at}
-use Rattle.rules.specs.Nodes.{unary_byte, binary_byte, byte_of, first_of, second_of, same, place_from}
+use Rattle.rules.specs.Nodes.{unary_byte, binary_byte, byte_of, first_of, second_of, same, place_from, place_of}
 use Rattle.rules.specs.declared.command.Command.{Command}
 use Rattle.rules.specs.declared.command.Command.TheVariants as command
 use Rattle.rules.specs.declared.node.UnaryOp.{UnaryOp}
@@ -65,12 +66,13 @@ same_decides x y = (
 pub eq_is_same : (x y : Node) (r : Bool) → Decides r (x ≡ y) → r ≡ same x y
 eq_is_same x y r h = same_from_decides r (same x y) h (same_decides x y)
 
-module _ (n : Node) (xs : List Node) (i : ℕ) (d : Node) (inside : i < length xs) where
-  pub place_here : same (get_or xs i d) n ≡ true → place_from i n (drop i xs) ≡ Some i
-  place_here t = ap (place_from i n) (drop_more xs i d inside) ∙ cond-true _ _ _ t
+-- std's word for the first place
+place_is_from : (n : Node) (i : ℕ) (xs : List Node) → place_from i n xs ≡ position_from (λ x. same x n) i xs
+place_is_from n i [] = refl
+place_is_from n i (x ∷ xs) = ap (cond (same x n) (Some i)) (place_is_from n (i + 1) xs)
 
-  pub place_on : same (get_or xs i d) n ≡ false → place_from i n (drop i xs) ≡ place_from (i + 1) n (drop (i + 1) xs)
-  place_on t = ap (place_from i n) (drop_more xs i d inside) ∙ cond-false _ _ _ t
+pub place_is_position : (n : Node) (xs : List Node) → place_of n xs ≡ position (λ x. same x n) xs
+place_is_position n xs = place_is_from n 0 xs ∙ sym (position_from-zero (λ x. same x n) xs)
 
 pub none≢some : {X : Type 0} (x : X) → ◌≡◌ {A = Option X} None (Some x) → ⊥
 none≢some x e = let z : ◌≡◌ {A = ℕ} 0 1 = cc in omega arith
@@ -83,13 +85,4 @@ absent n i (x ∷ xs) e (suc k) h g =
     ⊎_elim
     (λ t. none≢some i (sym e ∙ cond-true _ _ _ t))
     (λ f. absent n (i + 1) xs (sym (cond-false _ _ _ f) ∙ e) k (omega arith) g)
-    (cases_Bool (same x n))
-
--- and one that has a place stands there
-pub present : (n : Node) (i : ℕ) (xs : List Node) (p : ℕ) → place_from i n xs ≡ Some p → (k : ℕ) × (p ≡ i + k) × (k < length xs) × (get_or xs k True ≡ n)
-present n i [] p e = absurd (none≢some p e)
-present n i (x ∷ xs) p e =
-    ⊎_elim
-    (λ t. let q : i ≡ p = cc (sym (cond-true _ _ _ t) ∙ e) in (0, omega arith, omega arith, (same_decides x n).0 t))
-    (λ f. let q = present n (i + 1) xs p (sym (cond-false _ _ _ f) ∙ e) in (suc q.0, omega (arith, q.1), omega (arith, q.2), q.3))
     (cases_Bool (same x n))

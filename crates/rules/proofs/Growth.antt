@@ -1,23 +1,20 @@
 -- What one more node keeps of a book.
-use Rattle.std.proofs.Common.{◌≡◌, ℕ, ◌+◌, ◌<◌, ◌≤◌, true, cond, eqb, ltb, leb, List, [], ◌∷◌, ◌++◌, length, get_or, set, Some, None, Ok, Err, Option, sym, refl, ap, ◌∙◌, subst, ⊎_elim, arith}
-use Rattle.std.proofs.lemmas.List.{length-take-le, length_push, get_or_push, get_or_append_left, take_more_set}
-use Rattle.std.proofs.lemmas.Bool.{cases_lt, cases_Bool, lt-ltb, le-ltb, leb-true, and_from, cond-true, cond-false, cond_both}
+use Rattle.std.proofs.Common.{◌≡◌, ℕ, ◌+◌, ◌<◌, true, cond, eqb, ltb, leb, List, [], ◌∷◌, ◌++◌, length, get_or, set, Some, None, Ok, Err, Option, sym, refl, ap, ◌∙◌, subst, ⊎_elim, arith}
+use Rattle.std.proofs.lemmas.List.{length_push, get_or_push, get_or_append_left, take_more_set}
+use Rattle.std.proofs.lemmas.Bool.{cases_lt, cases_Bool, lt-ltb, leb-true, and_from, cond-true, cond-false, cond_both}
 use Rattle.rules.specs.Commands.{commands, command_in, command_of}
 use Rattle.rules.specs.Decoding.{Decoded, decoded, operands, signal, number}
-use Rattle.rules.specs.Entering.{at, missing, settled, added}
+use Rattle.rules.specs.Entering.{missing}
 use Rattle.rules.specs.Nodes.{place_from, place_of}
-use Rattle.rules.specs.Tables.{fits_at, Ordered, Distinct, listed}
+use Rattle.rules.specs.Tables.{fits_at, Ordered, Distinct, SoundBook, listed}
 use Rattle.rules.specs.declared.command.Command.{Command}
 use Rattle.rules.specs.declared.command.Command.TheVariants as command
-use Rattle.rules.specs.declared.fault.EnterFault.TheVariants.{Full, SignalAbove}
+use Rattle.rules.specs.declared.fault.EnterFault.TheVariants.{SignalAbove}
 use Rattle.rules.specs.declared.node.Node.{Node}
 use Rattle.rules.specs.declared.node.Node.TheVariants.{True, False, Signal, Unary, Binary}
 use Rattle.rules.specs.declared.node.Place.{Place}
 use Rattle.rules.specs.declared.table.Table.{Table}
 use Rattle.rules.proofs.Equal.{absent, none≢some}
-
-pub length-listed : (t : Table) → t.count ≤ 256 → length t.nodes ≡ 256 → length (listed t) ≡ t.count
-length-listed t h l = length-take-le t.count t.nodes (omega arith)
 
 -- at a place of xs ++ n ∷ [], either a place of xs or the last
 pub at_push : (xs : List Node) (n : Node) (P : ℕ → Node → Type 0) → ((k : ℕ) → k < length xs → P k (get_or xs k True)) → P (length xs) n → (k : ℕ) → k < length (xs ++ n ∷ []) → P k (get_or (xs ++ n ∷ []) k True)
@@ -42,6 +39,14 @@ distinct_push xs n old e j k lt h =
     (λ in'. old j k lt in' (before ∙ get_or_append_left xs (n ∷ []) True k in'))
     (λ ge. let e' : length xs ≡ k = omega arith in absent n 0 xs e j left (before ∙ get_or_push xs n True k e'))
     (cases_lt k (length xs))
+
+-- a sound book with room for a node that fits and is new
+pub sound_push : (xs : List Node) (n : Node) → SoundBook xs → length xs < 256 → fits_at n (length xs) ≡ true → place_of n xs ≡ None → SoundBook (xs ++ n ∷ [])
+sound_push xs n s room fits new = record {
+  few = omega (arith, length_push xs n);
+  ordered = ordered_push xs n s.ordered fits;
+  distinct = distinct_push xs n s.distinct new;
+}
 
 -- the signal of a node is one of the 64
 abbrev pub Signalled : Node → Type 0
@@ -123,16 +128,15 @@ decoded_good (b ∷ rest) = operands_good b (command_of b) rest (found_good comm
 pub decoded_signalled : (bytes : List ℕ) (n : Node) (l : ℕ) → Ok (n, l) ≡ decoded bytes → Signalled n
 decoded_signalled bytes n l e = subst Good (sym e) (decoded_good bytes)
 
-module _ (xs : List Node) (n : Node) (new : place_of n xs ≡ None) where
-  pub added_full : 256 ≤ length xs → added xs n ≡ (Err Full, xs)
-  added_full h = ap (settled xs n) new ∙ cond-false _ _ _ (le-ltb (length xs) 256 h)
-
-  pub added_new : length xs < 256 → added xs n ≡ (Ok (at (length xs)), xs ++ n ∷ [])
-  added_new h = ap (settled xs n) new ∙ cond-true _ _ _ (lt-ltb (length xs) 256 h)
-
 -- the table with one more node
 abbrev pub with_node : Table → Node → Table
 with_node t n = record { nodes = set t.nodes t.count n; count = t.count + 1 }
 
-pub listed_push : (t : Table) (n : Node) → t.count < 256 → length t.nodes ≡ 256 → listed (with_node t n) ≡ listed t ++ n ∷ []
-listed_push t n h l = take_more_set t.nodes t.count n (omega arith)
+-- what holds of the table of a book
+abbrev pub SoundTable : Table → Type 0
+SoundTable t = (t.count ≡ length (listed t)) × SoundBook (listed t)
+
+pub sound_table : (t : Table) (n : Node) → SoundTable t → t.count < 256 → length t.nodes ≡ 256 → fits_at n (length (listed t)) ≡ true → place_of n (listed t) ≡ None → SoundTable (with_node t n)
+sound_table t n s room long fits new =
+    let more : listed (with_node t n) ≡ listed t ++ n ∷ [] = take_more_set t.nodes t.count n (omega arith) in
+    (omega (arith, s.0, ap length more, length_push (listed t) n), subst SoundBook (sym more) (sound_push (listed t) n s.1 (omega (arith, s.0)) fits new))

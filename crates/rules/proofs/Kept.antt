@@ -1,6 +1,5 @@
 -- What an enter call keeps: books stay sound, and no node changes or leaves.
 use Rattle.std.proofs.Common.{◌≡◌, ℕ, Bool, true, false, cond, ltb, List, [], ◌∷◌, ◌++◌, length, Some, None, Ok, Err, Option, Result, sym, refl, ◌∙◌, subst, append-nil, arith}
-use Rattle.std.proofs.lemmas.List.{length_push}
 use Rattle.std.proofs.lemmas.Bool.{ltb-true}
 use Rattle.rules.specs.Decoding.{Decoded, decoded}
 use Rattle.rules.specs.Entering.{Outcome, at, missing, settled, admitted, taken, entered, Enters}
@@ -10,7 +9,7 @@ use Rattle.rules.specs.declared.fault.EnterFault.{EnterFault}
 use Rattle.rules.specs.declared.fault.EnterFault.TheVariants.{Full}
 use Rattle.rules.specs.declared.node.Node.{Node}
 use Rattle.rules.specs.declared.node.Place.{Place}
-use Rattle.rules.proofs.Growth.{Signalled, missing_fits, decoded_signalled, ordered_push, distinct_push}
+use Rattle.rules.proofs.Growth.{Signalled, missing_fits, decoded_signalled, sound_push}
 
 -- the empty book
 pub sound_empty : SoundBook []
@@ -34,11 +33,7 @@ settled_step B n s f None e = go (ltb (length B) 256) refl
     go : (b : Bool) → ltb (length B) 256 ≡ b → Step B (cond {A = Outcome Place} b (Ok (at (length B)), B ++ n ∷ []) (Err Full, B)).1
     go false q = stays B s
     go true q = record {
-      sound = record {
-        few = omega (arith, length_push B n, ltb-true (length B) 256 q);
-        ordered = ordered_push B n s.ordered f;
-        distinct = distinct_push B n s.distinct e;
-      };
+      sound = sound_push B n s (ltb-true (length B) 256 q) f e;
       grows = (n ∷ [], refl);
     }
 

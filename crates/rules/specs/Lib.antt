@@ -1,4 +1,3 @@
-pub mod Books
 pub mod Commands
 pub mod Decoding
 pub mod Entering

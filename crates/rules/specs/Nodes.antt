@@ -1,6 +1,5 @@
 -- When two nodes are equal, and where a node stands in a list of nodes.
-use Rattle.std.specs.Prelude.{ℕ, ◌+◌, Bool, cond, ◌&&◌, List, [], ◌∷◌, Some, None, Option, ◌==◌, nat_eq}
-use Rattle.std.specs.Cmp.{IsPartialEquivalence, partial_equiv_from_equiv, nat_eq_equiv, on_per, and_per}
+use Rattle.std.specs.Prelude.{ℕ, ◌+◌, Bool, cond, ◌&&◌, List, [], ◌∷◌, Some, None, Option, ◌==◌}
 use Rattle.rules.specs.declared.node.Node.{Node}
 use Rattle.rules.specs.declared.node.Node.TheVariants.{True, False, Signal, Unary, Binary}
 use Rattle.rules.specs.declared.node.UnaryOp.{UnaryOp}
@@ -54,14 +53,6 @@ second_of (Binary o a b) = b.index
 -- whether two nodes are equal: the same command byte and the same operands
 unfoldable pub same : Node → Node → Bool
 same x y = byte_of x == byte_of y && (first_of x == first_of y && second_of x == second_of y)
-
--- so it is symmetric and transitive
-pub same_laws : IsPartialEquivalence same
-unfolding same
-same_laws = and_per (on_per byte_of numbers) (and_per (on_per first_of numbers) (on_per second_of numbers))
-  where
-    numbers : IsPartialEquivalence nat_eq
-    numbers = partial_equiv_from_equiv nat_eq_equiv
 
 -- the first place of a node equal to n in the list, counted from i
 abbrev pub place_from : ℕ → Node → List Node → Option ℕ

@@ -17,7 +17,7 @@ const LENGTHS: [u8; 256] = [
 ];
 
 // What a first byte asks for: a node without operands, a signal's number, one place or two.
-#[derive(Clone, Copy)]
+#[derive(Clone, Copy, Debug, PartialEq, Eq)]
 pub enum Command {
     Plain(Node),
     Signal,

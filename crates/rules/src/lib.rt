@@ -13,8 +13,8 @@ pub mod table;
 mod tests {
     use crate::book::Book;
     use crate::fault::EnterFault;
-    use crate::node::Place;
-    use crate::reading::{ReadFault, read};
+    use crate::node::{Node, Place, UnaryOp};
+    use crate::reading::{FileFault, ReadFault, read};
     use std::test::Fail;
 
     #[test]
@@ -27,6 +27,8 @@ mod tests {
         );
         assert_eq!(rt; book.enter(&[0x10, 0, 7]), Ok((Place { index: 0 }, 3)));
         assert_eq!(rt; book.len(), 2);
+        let not = Node::Unary(UnaryOp::Not, Place { index: 0 });
+        assert_eq!(rt; book.nodes(), [Node::Signal(7), not].as_slice());
     }
 
     #[test]
@@ -54,6 +56,13 @@ mod tests {
                 assert_eq!(rt; fault.start, 3);
                 assert_eq!(rt; fault.rest.len(), 4);
                 assert_eq!(rt; book.len(), 1);
+                assert_eq!(rt;
+                    FileFault::from(ReadFault::Command(fault)),
+                    FileFault::Command {
+                        start: 3,
+                        fault: EnterFault::NotEntered(Place { index: 9 }),
+                    }
+                );
                 Ok(())
             }
             _ => Err(Fail::new("the third node is not there")),

@@ -1,6 +1,5 @@
 // The beginning of a translation.
 ghost use Rattle.std.specs.Prelude.{◌≡◌, ℕ, ◌<◌, ◌≤◌, ◌++◌, length, drop};
-ghost use Rattle.rules.specs.Books.{entries};
 ghost use Rattle.tableau.specs.Beginning.{first_item, begins, Begins};
 
 use crate::fault::{BeginFault, LentList, check_length};
@@ -36,7 +35,7 @@ pub fn begin(
     sheet: &mut [CoreNode],
     pending: &mut [Item],
 ) -> Result<Running, BeginFault>
-    ensures { Begins (entries book.now) place sheet.old pending.old (begins result) sheet.new pending.new }
+    ensures { Begins book.now place sheet.old pending.old (begins result) sheet.new pending.new }
 {
     let form = core_form(book, place)?;
     let nodes = form.nodes();

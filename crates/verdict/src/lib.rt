@@ -1,7 +1,6 @@
 // One verdict, by whichever call and in whichever log it is given.
 #![tactic(auto)]
 
-ghost use Rattle.rules.specs.Books.{entries};
 ghost use Rattle.judging.specs.Judging.{Judges};
 ghost use Rattle.verdict.specs.Law.{OneVerdict};
 ghost use Rattle.verdict.specs.Worked.{WorkedTable};
@@ -25,7 +24,7 @@ pub fn give_verdict<R: Recording>(
     recording: &R,
     work: &mut [u64],
 ) -> Result<bool, JudgeFault>
-    ensures judged { Judges (entries book.now) place (R.meaning recording.now) work.old result work.new }
+    ensures judged { Judges book.now place (R.meaning recording.now) work.old result work.new }
     ensures law { OneVerdict }
     ensures worked { WorkedTable }
 {

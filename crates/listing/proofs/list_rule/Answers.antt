@@ -1,6 +1,5 @@
 use Rattle.std.proofs.Common.{Err, refl, ap, ◌∙◌, subst}
 use Rattle.std.proofs.lemmas.Result.{err_from_is_err_and}
-use Rattle.rules.specs.Books.{entries}
 use Rattle.rules.specs.Reading.{Reads, rule}
 use Rattle.tableau.specs.Stepping.{lists, standing}
 use Rattle.listing.specs.Listing.{unbegun, begun}
@@ -12,21 +11,21 @@ returns-in_err-place c =
     let p = err_from_is_err_and c.from_residual.result c.from_residual.ensures.1 in
     let h = c.in_err-place.ensures in
     unread_as c.args.file.now (lists c.args.sheet.now c.args.states.now c.args.arcs.now c.args.pending.now)
-    c.in_err-place.field-0.0 (entries c.new-book.result) (entries c.read.new.book) c.new-book.ensures h.reads h.rest
+    c.in_err-place.field-0.0 c.new-book.result c.read.new.book c.new-book.ensures h.reads h.rest
     c.from_residual.result (p.1 ∙ ap Err p.2)
 
 pub returns-in_err-running : goal.returns-in_err-running
 returns-in_err-running c =
     let p = err_from_is_err_and c.from_residual-in_err-running.result c.from_residual-in_err-running.ensures.1 in
-    unbegun (subst (λ b. Reads b c.args.file.now (rule c.in_ok-place.place) (entries c.read.new.book)) c.new-book.ensures c.in_ok-place.ensures.reads)
+    unbegun (subst (λ b. Reads b c.args.file.now (rule c.in_ok-place.place) c.read.new.book) c.new-book.ensures c.in_ok-place.ensures.reads)
     c.in_err-running.ensures (p.1 ∙ ap Err p.2) refl
 
 pub step_on-requires : goal.step_on-requires
 step_on-requires c =
-    begun_long (entries c.read.new.book) c.in_ok-place.place (lists c.args.sheet.now c.args.states.now c.args.arcs.now c.args.pending.now)
+    begun_long c.read.new.book c.in_ok-place.place (lists c.args.sheet.now c.args.states.now c.args.arcs.now c.args.pending.now)
     (standing c.in_ok-running.running) c.begin.new.sheet c.begin.new.pending c.in_ok-running.ensures
 
 pub returns : goal.returns
 returns c =
-    begun (subst (λ b. Reads b c.args.file.now (rule c.in_ok-place.place) (entries c.read.new.book)) c.new-book.ensures c.in_ok-place.ensures.reads)
+    begun (subst (λ b. Reads b c.args.file.now (rule c.in_ok-place.place) c.read.new.book) c.new-book.ensures c.in_ok-place.ensures.reads)
     c.in_ok-running.ensures c.step_on.ensures refl

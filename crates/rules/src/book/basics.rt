@@ -1,7 +1,7 @@
 // A new book, and what stands in one.
 ghost use Rattle.std.specs.Prelude.{◌≡◌, [], length, if◌then◌else◌, Some, None, nat_lt, slice_index_or};
 ghost use Rattle.rules.specs.declared.node.Node.TheVariants.{True};
-ghost use Rattle.rules.specs.Books.{entries};
+ghost use Rattle.rules.specs.Tables.{SoundBook};
 
 use crate::book::Book;
 use crate::node::{Node, Place};
@@ -10,7 +10,7 @@ use crate::table::{ROOM, Table};
 impl Book {
     // A book in which nothing is entered.
     pub fn new() -> Book
-        ensures { entries result ≡ [] }
+        ensures { result ≡ [] }
     {
         Book {
             table: Table {
@@ -22,14 +22,16 @@ impl Book {
 
     // How many nodes are entered.
     pub fn len(&self) -> usize
-        ensures { result ≡ length (entries self.now) }
+        ensures count { result ≡ length self.now }
+        ensures sound { SoundBook self.now }
     {
         self.table.count
     }
 
     // The node at a place.
     pub fn get(&self, place: Place) -> Option<Node>
-        ensures { result ≡ (if nat_lt place.index (length (entries self.now)) then Some (slice_index_or (entries self.now) place.index True) else None) }
+        ensures node { result ≡ (if nat_lt place.index (length self.now) then Some (slice_index_or self.now place.index True) else None) }
+        ensures sound { SoundBook self.now }
     {
         let index = place.index as usize;
         if index < self.table.count {
@@ -37,5 +39,13 @@ impl Book {
         } else {
             None
         }
+    }
+
+    /// The nodes in the order of their places.
+    pub fn nodes(&self) -> &[Node]
+        ensures nodes { result.now ≡ self.now }
+        ensures sound { SoundBook self.now }
+    {
+        &self.table.nodes[0..self.table.count]
     }
 }

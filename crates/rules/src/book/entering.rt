@@ -1,6 +1,5 @@
 // Entering one command.
 ghost use Rattle.std.specs.Prelude.{◌≡◌, true, length, if◌then◌else◌, Some, None, nat_lt};
-ghost use Rattle.rules.specs.Books.{entries};
 ghost use Rattle.rules.specs.Entering.{missing, added, Enters};
 ghost use Rattle.rules.specs.Tables.{fits_at};
 
@@ -8,12 +7,12 @@ use crate::book::Book;
 use crate::decode::decode;
 use crate::fault::EnterFault;
 use crate::node::{Node, Place};
-use crate::table::ROOM;
+use crate::table::{ROOM, place_in};
 
 impl Book {
     // The first operand of the node that is not entered.
     fn missing_operand(&self, node: Node) -> Option<Place>
-        ensures { result ≡ missing node (length (entries self.now)) }
+        ensures { result ≡ missing node (length self.now) }
     {
         match node {
             Node::True | Node::False | Node::Signal(_) => None,
@@ -26,7 +25,7 @@ impl Book {
     }
 
     fn unless_entered(&self, place: Place) -> Option<Place>
-        ensures { result ≡ (if nat_lt place.index (length (entries self.now)) then None else Some place) }
+        ensures { result ≡ (if nat_lt place.index (length self.now) then None else Some place) }
     {
         if (place.index as usize) < self.table.count {
             None
@@ -37,11 +36,11 @@ impl Book {
 
     // The place of an equal node, or else of this one as the newest.
     fn add(&mut self, node: Node) -> Result<Place, EnterFault>
-        requires { fits_at node (length (entries self.old)) ≡ true }
-        ensures answer { result ≡ (added (entries self.old) node).0 }
-        ensures after { entries self.new ≡ (added (entries self.old) node).1 }
+        requires { fits_at node (length self.old) ≡ true }
+        ensures answer { result ≡ (added self.old node).0 }
+        ensures after { self.new ≡ (added self.old node).1 }
     {
-        if let Some(place) = self.table.place_of(node) {
+        if let Some(place) = place_in(self.nodes(), node) {
             return Ok(Place {
                 index: place as u16,
             });
@@ -59,7 +58,7 @@ impl Book {
 
     // Enters the command at the front of the bytes: the place of its node, and how long the command is.
     pub fn enter(&mut self, bytes: &[u8]) -> Result<(Place, usize), EnterFault>
-        ensures { Enters (entries self.old) bytes.now result (entries self.new) }
+        ensures { Enters self.old bytes.now result self.new }
     {
         let (node, length) = decode(bytes)?;
         if let Some(place) = self.missing_operand(node) {

@@ -1,6 +1,5 @@
 use Rattle.std.proofs.Common.{◌≡◌, drop, IfErr, Err, sym, ap, ◌∙◌, subst, arith}
 use Rattle.std.proofs.lemmas.Result.{err_from_is_err_and}
-use Rattle.rules.specs.Books.{entries}
 use Rattle.rules.specs.HandedBack.{told, HandsBack}
 use Rattle.rules.specs.Reading.{refused, stops, ends, goes_on, Reads, reads}
 use Rattle.rules.specs.declared.reading.ReadFault.TheVariants.{Command}
@@ -17,7 +16,7 @@ returns-in_err-place c =
     let stopped = c.loop-place.invariant.1 (refused fault.fault start) _ (stops h.0) in
     let answer : refused fault.fault start ≡ told c.from_residual.result = ap (refused fault.fault) (sym h.1) ∙ sym (ap told is) in
     record {
-      reads = subst (λ a. Reads (entries c.args.book.now) file a (entries c.enter_at.new.book)) answer (reads (omega arith) (omega arith) stopped);
+      reads = subst (λ a. Reads c.args.book.now file a c.enter_at.new.book) answer (reads (omega arith) (omega arith) stopped);
       rest = subst (λ r. IfErr r (λ e. HandsBack file e)) (sym is) (h.2 ∙ ap (λ k. drop k file) (sym h.1));
     }
 
