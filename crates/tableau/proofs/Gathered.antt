@@ -1,6 +1,6 @@
 -- The signals of an Old, one core number further.
 use Rattle.std.proofs.Common.{◌≡◌, ℕ, ◌+◌, true, false, cond, List, sym, ap, ◌∙◌, add-one}
-use lib.Bits.{bit_or, or_zero_r}
+use Rattle.std.specs.Int.Bits.{bit_or, or_zero_r}
 use Rattle.automata.specs.Sets.{has}
 use Rattle.automata.specs.Steps.{signals, node_on}
 use Rattle.automata.specs.declared.nodes.CoreNode.{CoreNode}

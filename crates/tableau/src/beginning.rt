@@ -25,8 +25,10 @@ fn first_item(root: u8) -> Item
     }
 }
 
-// Begins the translation of the rule at a place: its core form goes on the sheet, and one item into
-// the pending list.
+/// Begins the translation of the rule at a place: its core form goes on the sheet, and one item into
+/// the pending list. Refused are, in this order, a place that is not in the book (9), a core form of
+/// over 64 nodes (7) or over 16 untils (8), a sheet that is shorter than the core form and an empty
+/// pending list (11). A refused call changes nothing. See docs/TRANSLATION.md.
 pub fn begin(
     book: &Book,
     place: Place,

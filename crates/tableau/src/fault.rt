@@ -6,7 +6,7 @@ ghost use Rattle.tableau.specs.declared.fault.BeginFault.TheVariants.{Form as No
 
 use coreform::form::FormFault;
 
-// A list that the caller lends.
+/// A list that the caller lends.
 #[derive(Clone, Copy, PartialEq, Eq, Debug)]
 pub enum LentList {
     Sheet,
@@ -15,7 +15,8 @@ pub enum LentList {
     Pending,
 }
 
-// This list is shorter than the length that it needs: what the translation uses of it.
+/// Refusal 11: this list is shorter than the length that it needs, which is what the translation uses
+/// of it. See docs/REFUSALS.md.
 #[derive(Clone, Copy, PartialEq, Eq, Debug)]
 pub struct ShortFault {
     pub list: LentList,
@@ -23,7 +24,7 @@ pub struct ShortFault {
 }
 
 impl ShortFault {
-    // The number of the refusal.
+    /// The number of the refusal: 11.
     pub fn number(&self) -> u8
         ensures { result ≡ step_number self.now }
     {
@@ -42,14 +43,14 @@ pub(crate) fn check_length(list: LentList, length: usize, needed: usize) -> Resu
     }
 }
 
-// Why there is no translation of the rule at a place.
+/// Why there is no translation of the rule at a place. See docs/REFUSALS.md.
 #[derive(Clone, Copy, PartialEq, Eq, Debug)]
 pub enum BeginFault {
-    // nothing is entered at the place, or the core form has over 64 nodes
+    /// 9, nothing is entered at the place, or 7, the core form has over 64 nodes
     Form(FormFault),
-    // the core form has this many untils, over 16
+    /// 8: the core form has this many untils, over 16
     TooManyUntils(u8),
-    // a list is shorter than needed
+    /// 11: a list is shorter than needed
     Short(ShortFault),
 }
 
@@ -70,7 +71,7 @@ impl From<ShortFault> for BeginFault {
 }
 
 impl BeginFault {
-    // The number of the refusal.
+    /// The number of the refusal: 7, 8, 9 or 11.
     pub fn number(&self) -> u8
         ensures { result ≡ begin_number self.now }
     {

@@ -1,4 +1,5 @@
 // Sets of core numbers.
+// Kept: functions, as a method on another crate's type is public, and the project has no public `requires`.
 ghost use Rattle.std.specs.Prelude.{◌≡◌, ◌<◌};
 ghost use Rattle.automata.specs.Sets.{has, insert as inserted, remove as removed, lowest as lowest_of, join as joined};
 

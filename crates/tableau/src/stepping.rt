@@ -55,7 +55,9 @@ fn progress(before: Totals, stopped: Stopped) -> Progress
     }
 }
 
-// As many steps as are allowed, until the translation is finished or there is no room for the next.
+/// Makes as many steps as are allowed, 0 to 65,535, until the translation is finished or there is no
+/// room for the next. A list that is shorter than what the translation uses of it is refused (11): then
+/// nothing changes, and the translation comes back. See docs/TRANSLATION.md.
 pub fn step(
     translation: Running,
     sheet: &[CoreNode],

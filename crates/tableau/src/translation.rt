@@ -61,15 +61,18 @@ impl fmt::Display for Lack {
     }
 }
 
-// What a call of step comes to.
+/// What a call of step comes to where it is not refused. See docs/TRANSLATION.md.
 #[derive(Drop)]
 pub enum Progress {
+    /// nothing is pending: the states and arcs in use are the automaton
     Finished(Finished),
+    /// the allowance is spent
     Running(Running),
+    /// the next step needs more than there is; the translation as it was before it
     NoRoom(Running, Lack),
 }
 
-// A refused step hands the translation back.
+/// A refused step (11) hands the translation back.
 #[derive(Drop)]
 pub struct StepRefused {
     pub translation: Running,
