@@ -35,6 +35,7 @@ pub(crate) enum Expected {
 }
 
 // Why a text is no recording.
+// Kept: a derive of `thiserror` is no plainer: each sentence names the file in its middle, which no fault holds.
 #[derive(Clone, Copy)]
 pub(crate) enum TextFault {
     // every line is blank or a comment
