@@ -73,11 +73,8 @@ fn heading_of(line: &str) -> Option<Heading>
     let rest = line.strip_prefix("edges ")?;
     let (front, back) = rest.split_once(" loop ")?;
     let count = decimal(front.as_bytes())?;
-    let start = decimal(back.as_bytes())?;
-    Some(Heading::Edges {
-        count,
-        loop_start: start,
-    })
+    let loop_start = decimal(back.as_bytes())?;
+    Some(Heading::Edges { count, loop_start })
 }
 
 fn edge_of(line: &str) -> Option<Edge>
