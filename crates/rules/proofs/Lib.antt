@@ -1,4 +1,3 @@
 pub mod Equal
 pub mod Growth
 pub mod Kept
-pub mod Words

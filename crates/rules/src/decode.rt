@@ -2,18 +2,20 @@
 ghost use Rattle.std.specs.Prelude.{◌≡◌};
 ghost use Rattle.rules.specs.Decoding.{decoded, place};
 
-use crate::command::{Command, command_at, command_length, operand};
+use crate::command::{Command, command_length, operand};
 use crate::fault::EnterFault;
 use crate::node::{Node, Place};
 
+// The greatest number of a signal.
 const LAST_SIGNAL: u16 = 63;
 
 // The place that two bytes say.
 fn place_at(high: u8, low: u8) -> Place
     ensures { result ≡ place high low }
 {
-    let index = operand(high, low);
-    Place { index }
+    Place {
+        index: operand(high, low),
+    }
 }
 
 // The node that the first command says, and how long the command is.
@@ -23,10 +25,7 @@ pub(crate) fn decode(bytes: &[u8]) -> Result<(Node, usize), EnterFault>
     let [byte, rest @ ..] = bytes else {
         return Err(EnterFault::Truncated);
     };
-    let Some(command) = command_at(*byte) else {
-        return Err(EnterFault::UnknownCommand(*byte));
-    };
-    let node = match command {
+    let node = match Command::try_from(*byte)? {
         Command::Plain(node) => node,
         Command::Signal => {
             let [high, low, ..] = rest else {
@@ -45,14 +44,10 @@ pub(crate) fn decode(bytes: &[u8]) -> Result<(Node, usize), EnterFault>
             Node::Unary(op, place_at(*high, *low))
         }
         Command::Binary(op) => {
-            let [high, low, more @ ..] = rest else {
+            let [high, low, next_high, next_low, ..] = rest else {
                 return Err(EnterFault::Truncated);
             };
-            let a = place_at(*high, *low);
-            let [high, low, ..] = more else {
-                return Err(EnterFault::Truncated);
-            };
-            Node::Binary(op, a, place_at(*high, *low))
+            Node::Binary(op, place_at(*high, *low), place_at(*next_high, *next_low))
         }
     };
     Ok((node, command_length(*byte)))

@@ -12,6 +12,7 @@ pub mod table;
 #[cfg(test)]
 mod tests {
     use crate::book::Book;
+    use crate::command::Command;
     use crate::fault::EnterFault;
     use crate::node::{Node, Place, UnaryOp};
     use crate::reading::{FileFault, ReadFault, read};
@@ -67,5 +68,17 @@ mod tests {
             }
             _ => Err(Fail::new("the third node is not there")),
         }
+    }
+
+    #[test]
+    fn causes_by_their_words(rt: HostRuntime) -> Result<(), Fail> {
+        let heap = rt.alloc();
+        let fault = Command::try_from(0x0a);
+        assert_eq!(rt; fault, Err(EnterFault::UnknownCommand(10)));
+        let cause = format!(in heap; "{}", EnterFault::UnknownCommand(10))?;
+        assert_eq!(rt; cause.as_str(), "no command begins with the byte 0a");
+        let cause = format!(in heap; "{}", EnterFault::NotEntered(Place { index: 300 }))?;
+        assert_eq!(rt; cause.as_str(), "there is no node yet at place 300");
+        Ok(())
     }
 }

@@ -63,6 +63,7 @@ impl From<ReadFault<'_>> for FileFault {
 
 impl FileFault {
     /// The number of the refusal, 1 to 6.
+    // Kept: a public promise, and docs/REFUSALS.md lists the numbers.
     pub fn number(&self) -> u8
         ensures { result ≡ file_number self.now }
     {
@@ -73,6 +74,7 @@ impl FileFault {
     }
 
     /// The byte where the refused command starts, counted from 0, and 0 where the file's size is refused.
+    // Kept: a public promise, which says 0 where there is no such byte.
     pub fn start(&self) -> usize
         ensures { result ≡ file_start self.now }
     {
@@ -109,13 +111,13 @@ fn enter_at<'a>(
     ensures { MatchResult result (λ p. Enters book.old (drop start file.now) (Ok p) book.new) (λ e. Enters book.old (drop start file.now) (Err e.fault) book.new × (e.start ≡ start) × (e.rest.now ≡ drop start file.now)) }
 {
     let rest = &file[start..];
-    match book.enter(rest) {
-        Ok(entered) => Ok(entered),
-        Err(fault) => Err(CommandFault { fault, start, rest }),
-    }
+    book.enter(rest)
+        .map_err(|fault| CommandFault { fault, start, rest })
 }
 
-// Enters the commands of a rule file in turn, and answers the place of the rule, which is its last command.
+/// Enters the commands of a rule file in turn, and answers the place of the rule, which is its last
+/// command. Refusal 1 for a file that is empty or over 4,096 bytes, which enters nothing, else 2 to 6
+/// of the first refused command; the commands before it stay entered. docs/RULES.md, docs/REFUSALS.md.
 pub fn read<'a>(book: &mut Book, file: &'a [u8]) -> Result<Place, ReadFault<'a>>
     ensures reads { Reads book.old file.now (told result) book.new }
     ensures rest { IfErr result (λ e. HandsBack file.now e) }
@@ -123,6 +125,7 @@ pub fn read<'a>(book: &mut Book, file: &'a [u8]) -> Result<Place, ReadFault<'a>>
     if file.is_empty() || file.len() > MOST_BYTES {
         return Err(ReadFault::FileSize(file));
     }
+    // Kept: no plainer with the rest of the file, since a fault says where its command starts.
     let mut start = 0;
     loop {
         let (place, length) = enter_at(book, file, start)?;

@@ -8,7 +8,7 @@ use crate::node::{Node, Place};
 use crate::table::{ROOM, Table};
 
 impl Book {
-    // A book in which nothing is entered.
+    /// A book in which nothing is entered.
     pub fn new() -> Book
         ensures { result ≡ [] }
     {
@@ -20,7 +20,7 @@ impl Book {
         }
     }
 
-    // How many nodes are entered.
+    /// How many nodes are entered, 0 to 256.
     pub fn len(&self) -> usize
         ensures count { result ≡ length self.now }
         ensures sound { SoundBook self.now }
@@ -28,20 +28,15 @@ impl Book {
         self.table.count
     }
 
-    // The node at a place.
+    /// The node at a place, and `None` where no node is entered.
     pub fn get(&self, place: Place) -> Option<Node>
         ensures node { result ≡ (if nat_lt place.index (length self.now) then Some (slice_index_or self.now place.index True) else None) }
         ensures sound { SoundBook self.now }
     {
-        let index = place.index as usize;
-        if index < self.table.count {
-            Some(self.table.nodes[index])
-        } else {
-            None
-        }
+        self.nodes().get(place.index as usize).copied()
     }
 
-    /// The nodes in the order of their places.
+    /// The nodes that are entered, in the order of their places.
     pub fn nodes(&self) -> &[Node]
         ensures nodes { result.now ≡ self.now }
         ensures sound { SoundBook self.now }

@@ -17,21 +17,15 @@ impl Book {
         match node {
             Node::True | Node::False | Node::Signal(_) => None,
             Node::Unary(_, a) => self.unless_entered(a),
-            Node::Binary(_, a, b) => match self.unless_entered(a) {
-                Some(a) => Some(a),
-                None => self.unless_entered(b),
-            },
+            Node::Binary(_, a, b) => self.unless_entered(a).or_else(|| self.unless_entered(b)),
         }
     }
 
+    // The place, unless a node is entered there.
     fn unless_entered(&self, place: Place) -> Option<Place>
         ensures { result ≡ (if nat_lt place.index (length self.now) then None else Some place) }
     {
-        if (place.index as usize) < self.table.count {
-            None
-        } else {
-            Some(place)
-        }
+        (place.index as usize >= self.table.count).then_some(place)
     }
 
     // The place of an equal node, or else of this one as the newest.
@@ -56,7 +50,10 @@ impl Book {
         })
     }
 
-    // Enters the command at the front of the bytes: the place of its node, and how long the command is.
+    /// Enters the command at the front of the bytes, and answers the place of its node and how many
+    /// bytes the command has: 1, 3 or 5. An equal node keeps its place, and a new one stands last.
+    /// Refusals 2 to 6, in this order: the command byte, the length, the signal, the operands, the
+    /// room; a refused call leaves the book as it is. docs/RULES.md, docs/REFUSALS.md.
     pub fn enter(&mut self, bytes: &[u8]) -> Result<(Place, usize), EnterFault>
         ensures { Enters self.old bytes.now result self.new }
     {
