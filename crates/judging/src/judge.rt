@@ -18,10 +18,12 @@ fn fill_table<R: Recording>(book: &Book, place: Place, recording: &R, work: &mut
     ensures table { Tabled book.now (R.meaning recording.now) (place.index + 1) work.new }
     ensures rest { drop (4 * length (R.meaning recording.now).words) work.new ≡ drop (4 * length (R.meaning recording.now).words) work.old }
 {
-    let nodes = book.nodes();
-    let end = place.index + 1;
-    for index in 0..end {
-        fill_column(nodes[index as usize], Place { index }, recording, work);
+    let end = place.index as usize + 1;
+    for (index, &node) in book.nodes()[..end].iter().enumerate() {
+        let at = Place {
+            index: index as u16,
+        };
+        fill_column(node, at, recording, work);
     }
 }
 

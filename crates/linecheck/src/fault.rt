@@ -5,19 +5,17 @@ ghost use Rattle.linecheck.specs.declared.fault.NoVerdict.TheVariants.{Recording
 use crate::text::TextFault;
 use judging::fault::JudgeFault;
 use models::fault::RecordingFault;
-use rules::fault::EnterFault;
-use rules::reading::ReadFault;
+use rules::reading::{FileFault, ReadFault};
 use std::alloc::AllocError;
 use std::io;
 
+// Kept: a derive of `thiserror` is no plainer: each sentence names the file in its middle, which no fault holds.
 #[derive(Clone, Copy)]
 pub(crate) enum NoVerdict {
     // the file cannot be read
     File(io::Error),
-    // the rule file has this many bytes, which are none or too many
-    RuleSize(usize),
-    // the command that starts at this byte of the rule file is refused
-    Command { start: usize, fault: EnterFault },
+    // the rule file is refused
+    Rule(FileFault),
     // the text is no recording
     Text(TextFault),
     // the recording is refused
@@ -36,13 +34,7 @@ impl From<io::Error> for NoVerdict {
 
 impl From<ReadFault<'_>> for NoVerdict {
     fn from(fault: ReadFault<'_>) -> NoVerdict {
-        match fault {
-            ReadFault::FileSize(file) => NoVerdict::RuleSize(file.len()),
-            ReadFault::Command(command) => NoVerdict::Command {
-                start: command.start,
-                fault: command.fault,
-            },
-        }
+        NoVerdict::Rule(FileFault::from(fault))
     }
 }
 

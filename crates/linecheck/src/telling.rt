@@ -5,6 +5,7 @@ use crate::text::{Expected, TextFault};
 use judging::fault::JudgeFault;
 use models::fault::RecordingFault;
 use rules::fault::EnterFault;
+use rules::reading::FileFault;
 use std::fmt;
 use std::io::ErrorKind;
 
@@ -63,10 +64,11 @@ impl fmt::Display for CommandCause {
                 f,
                 "there is no signal {signal}; signals are 0 to 63"
             ),
-            EnterFault::NotEntered(place) => {
-                let index = place.index;
-                write!(f, "there is no node yet at place {index}")
-            }
+            EnterFault::NotEntered(place) => write!(
+                f,
+                "there is no node yet at place {}",
+                place.index
+            ),
             EnterFault::Full => write!(f, "the book is full; it has room for 256 nodes"),
         }
     }
@@ -92,6 +94,27 @@ fn file_fault<W: fmt::Write>(
         ErrorKind::NotFound => write!(f, "unreadable: there is no file {file}"),
         ErrorKind::InvalidData => write!(f, "unreadable: {file} is no text"),
         other => write!(f, "unreadable: {file}: {other}"),
+    }
+}
+
+fn rule_fault<W: fmt::Write>(
+    f: &mut fmt::Formatter<W>,
+    file: &str,
+    fault: FileFault,
+) -> fmt::Result {
+    let number = fault.number();
+    match fault {
+        FileFault::Size(size) => {
+            write!(
+                f,
+                "refused {number}: {file} has {}; a rule file has 1 to 4096",
+                Counted(size, "byte")
+            )
+        }
+        FileFault::Command { start, fault } => {
+            let cause = CommandCause(fault);
+            write!(f, "refused {number} at byte {start} of {file}: {cause}")
+        }
     }
 }
 
@@ -166,18 +189,7 @@ impl fmt::Display for Sentence<'_> {
         let file = self.file;
         match self.cause {
             NoVerdict::File(error) => file_fault(f, file, error.kind()),
-            NoVerdict::RuleSize(size) => {
-                let bytes = Counted(size, "byte");
-                write!(
-                    f,
-                    "refused 1: {file} has {bytes}; a rule file has 1 to 4096"
-                )
-            }
-            NoVerdict::Command { start, fault } => {
-                let number = fault.number();
-                let cause = CommandCause(fault);
-                write!(f, "refused {number} at byte {start} of {file}: {cause}")
-            }
+            NoVerdict::Rule(fault) => rule_fault(f, file, fault),
             NoVerdict::Text(fault) => text_fault(f, file, fault),
             NoVerdict::Recording(fault) => recording_fault(f, file, fault),
             NoVerdict::Judge(fault) => judge_fault(f, file, fault),

@@ -35,6 +35,7 @@ pub(crate) enum Expected {
 }
 
 // Why a text is no recording.
+// Kept: a derive of `thiserror` is no plainer: each sentence names the file in its middle, which no fault holds.
 #[derive(Clone, Copy)]
 pub(crate) enum TextFault {
     // every line is blank or a comment
@@ -72,11 +73,8 @@ fn heading_of(line: &str) -> Option<Heading>
     let rest = line.strip_prefix("edges ")?;
     let (front, back) = rest.split_once(" loop ")?;
     let count = decimal(front.as_bytes())?;
-    let start = decimal(back.as_bytes())?;
-    Some(Heading::Edges {
-        count,
-        loop_start: start,
-    })
+    let loop_start = decimal(back.as_bytes())?;
+    Some(Heading::Edges { count, loop_start })
 }
 
 fn edge_of(line: &str) -> Option<Edge>
