@@ -1,7 +1,10 @@
 // Entering one command.
 ghost use Rattle.std.specs.Prelude.{◌≡◌, true, length, if◌then◌else◌, Some, None, nat_lt};
+ghost use Rattle.std.specs.Option.{option_map};
+ghost use Rattle.std.specs.Result.{result_err};
 ghost use Rattle.rules.specs.Entering.{missing, added, Enters};
 ghost use Rattle.rules.specs.Tables.{fits_at};
+ghost use Rattle.rules.specs.declared.fault.EnterFault.TheVariants.{NotEntered};
 
 use crate::book::Book;
 use crate::decode::decode;
@@ -10,22 +13,28 @@ use crate::node::{Node, Place};
 use crate::table::{ROOM, place_in};
 
 impl Book {
-    // The first operand of the node that is not entered.
-    fn missing_operand(&self, node: Node) -> Option<Place>
-        ensures { result ≡ missing node (length self.now) }
+    // Refuses the first operand of the node that is not entered.
+    fn check_operands(&self, node: Node) -> Result<(), EnterFault>
+        ensures { result_err result ≡ option_map NotEntered (missing node (length self.now)) }
     {
         match node {
-            Node::True | Node::False | Node::Signal(_) => None,
-            Node::Unary(_, a) => self.unless_entered(a),
-            Node::Binary(_, a, b) => self.unless_entered(a).or_else(|| self.unless_entered(b)),
+            Node::True | Node::False | Node::Signal(_) => Ok(()),
+            Node::Unary(_, a) => self.check_entered(a),
+            Node::Binary(_, a, b) => {
+                self.check_entered(a)?;
+                self.check_entered(b)
+            }
         }
     }
 
-    // The place, unless a node is entered there.
-    fn unless_entered(&self, place: Place) -> Option<Place>
-        ensures { result ≡ (if nat_lt place.index (length self.now) then None else Some place) }
+    // Refuses a place at which nothing is entered.
+    fn check_entered(&self, place: Place) -> Result<(), EnterFault>
+        ensures { result_err result ≡ (if nat_lt place.index (length self.now) then None else Some (NotEntered place)) }
     {
-        (place.index as usize >= self.table.count).then_some(place)
+        if place.index as usize >= self.table.count {
+            return Err(EnterFault::NotEntered(place));
+        }
+        Ok(())
     }
 
     // The place of an equal node, or else of this one as the newest.
@@ -58,9 +67,7 @@ impl Book {
         ensures { Enters self.old bytes.now result self.new }
     {
         let (node, length) = decode(bytes)?;
-        if let Some(place) = self.missing_operand(node) {
-            return Err(EnterFault::NotEntered(place));
-        }
+        self.check_operands(node)?;
         let place = self.add(node)?;
         Ok((place, length))
     }
