@@ -1,4 +1,4 @@
--- What a draft stands for.
+-- What is answered where something is written on a draft.
 use Rattle.std.specs.Prelude.{◌≡◌, ℕ, ◌<◌, List, length, Option, MatchOption}
 use Rattle.automata.specs.Sheets.{Written}
 use Rattle.automata.specs.declared.nodes.CoreNode.{CoreNode}

@@ -60,7 +60,6 @@ impl Draft {
     }
 
     // Writes a node unless it is there, and answers its number: none where 64 others are written.
-    #[tactic(auto, using(crate::proofs::Drafting::put_there))]
     pub(crate) fn put(&mut self, node: CoreNode) -> Option<u8>
         ensures { Drafted self.new result (put node self.old) }
     {

@@ -1,8 +1,11 @@
 use Rattle.std.proofs.Common.{◌≡◌, ◌+◌, [], ◌∷◌, ◌++◌, length, take, slice_set, sym, ap, ◌∙◌, arith}
 use Rattle.std.proofs.lemmas.List.{length-take-le, length_push, take_more_set}
 use Rattle.automata.proofs.Again.{written}
-use Rattle.coreform.proofs.Drafting.{put_next}
+use Rattle.coreform.proofs.Drafting.{put_there, put_next}
 use Rattle.coreform.proofs.draft.Draft.put.Goals as goal
+
+pub returns-in-Some : goal.returns-in-Some
+returns-in-Some c = put_there c.args.node c.args.self.now c.in-Some.number (rw (← c.nodes.ensures) c.in-Some.ensures)
 
 pub returns-then-self-eq-MOST_NODES : goal.returns-then-self-eq-MOST_NODES
 returns-then-self-eq-MOST_NODES c =
