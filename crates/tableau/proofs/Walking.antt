@@ -2,7 +2,8 @@
 use Rattle.std.proofs.Common.{◌≡◌, ℕ, zero, suc, ◌+◌, ◌-◌, ◌<◌, ◌≤◌, Bool, true, false, cond, eqb, List, [], ◌∷◌, reverse, length, take, drop, Some, None, Option, sym, refl, ap, ◌∙◌, subst, arith}
 use Rattle.std.proofs.lemmas.List.{drop-drop}
 use Rattle.std.proofs.lemmas.Bool.{eqb-true, eqb-false}
-use Rattle.automata.specs.Steps.{Config, Room, Progressed, finished, running, Advanced, within, unless_lacking, unless_finished, one_step, advance}
+use Rattle.automata.specs.Sets.{empty}
+use Rattle.automata.specs.Steps.{Config, item, Room, Progressed, finished, running, Advanced, within, unless_lacking, unless_finished, one_step, advance}
 use Rattle.automata.specs.declared.items.Arc.{Arc}
 use Rattle.automata.specs.declared.items.Item.{Item}
 use Rattle.automata.specs.declared.items.State.{State}
@@ -13,6 +14,10 @@ use Rattle.tableau.specs.declared.rooms.Counts.{Counts}
 use Rattle.tableau.specs.declared.rooms.Space.{Space}
 use Rattle.tableau.specs.declared.translation.Lack.{Lack}
 use Rattle.tableau.proofs.Written.{top}
+
+-- what is read past the end
+abbrev none : Item
+none = item 0 empty empty empty
 
 abbrev stop : Config → Progressed → Advanced
 stop c a = record { config = c; answer = a }
@@ -65,8 +70,8 @@ module _ {sheet : List CoreNode} {start : Counts} {ss : List State} {xs : List A
   fits : c.pending ≤ length ps'
   fits = let w = g.inside in let k = g.kept in omega arith
 
-  pub spent : (d : Item) → allowance - made ≡ 0 → Walked sheet start ss xs ps allowance (record { counts = c; lack = None }) ss' xs' ps'
-  spent d e = go (eqb c.pending 0) refl
+  pub spent : allowance - made ≡ 0 → Walked sheet start ss xs ps allowance (record { counts = c; lack = None }) ss' xs' ps'
+  spent e = go (eqb c.pending 0) refl
     where
       go : (b : Bool) → eqb c.pending 0 ≡ b → Walked sheet start ss xs ps allowance (record { counts = c; lack = None }) ss' xs' ps'
       go true t = done (eqb-true c.pending 0 t)
@@ -74,21 +79,21 @@ module _ {sheet : List CoreNode} {start : Counts} {ss : List State} {xs : List A
           let ne : c.pending ≡ 0 → ⊥ = eqb-false c.pending 0 t in
           stopped None
           (ap (λ b. stop here (cond b finished running)) t
-          ∙ advance_spent sheet (room_in space) here _ _ (top c.pending ps' d (omega arith) fits)
+          ∙ advance_spent sheet (room_in space) here _ _ (top c.pending ps' none (omega arith) fits)
           ∙ ap (λ n. advance sheet (room_in space) n here) (sym e))
 
   -- a loop's space is the space at its start
-  pub no_room_here : (d : Item) (s : Space) (l : Lack) (ss'' : List State) (xs'' : List Arc) (ps'' : List Item) → made < allowance → 0 < c.pending → s ≡ space
+  pub no_room_here : (s : Space) (l : Lack) (ss'' : List State) (xs'' : List Arc) (ps'' : List Item) → made < allowance → 0 < c.pending → s ≡ space
       → Stuck sheet s c ss' xs' ps' l ss'' xs'' ps'' → Walked sheet start ss xs ps allowance (record { counts = c; lack = Some l }) ss'' xs'' ps''
-  no_room_here d s l ss'' xs'' ps'' some more is t =
-      let w = stopped (Some l) (advance_on sheet (room_in space) here (allowance - made) _ _ _ (omega arith) (top c.pending ps' d more fits) (ap (λ s. within (room_in s) (one_step sheet here) running) (sym is) ∙ t.room)) in
+  no_room_here s l ss'' xs'' ps'' some more is t =
+      let w = stopped (Some l) (advance_on sheet (room_in space) here (allowance - made) _ _ _ (omega arith) (top c.pending ps' none more fits) (ap (λ s. within (room_in s) (one_step sheet here) running) (sym is) ∙ t.room)) in
       subst (λ z. Walked sheet start ss xs ps allowance (record { counts = c; lack = Some l }) z xs'' ps'') (sym t.states)
       (subst (λ z. Walked sheet start ss xs ps allowance (record { counts = c; lack = Some l }) ss' z ps'') (sym t.arcs)
       (subst (λ z. Walked sheet start ss xs ps allowance (record { counts = c; lack = Some l }) ss' xs' z) (sym t.pending) w))
 
-  pub one_more : (d : Item) (s : Space) (r : Counts) (ss'' : List State) (xs'' : List Arc) (ps'' : List Item) → made < allowance → 0 < c.pending → s ≡ space
+  pub one_more : (s : Space) (r : Counts) (ss'' : List State) (xs'' : List Arc) (ps'' : List Item) → made < allowance → 0 < c.pending → s ≡ space
       → Went sheet s c ss' xs' ps' r ss'' xs'' ps'' → Going sheet start ss xs ps allowance r ss'' xs'' ps'' (made + 1)
-  one_more d s r ss'' xs'' ps'' some more is t =
+  one_more s r ss'' xs'' ps'' some more is t =
       let k = g.kept in
       let k' = t.kept in
       let less : allowance - (made + 1) ≡ allowance - made - 1 = omega arith in
@@ -96,7 +101,7 @@ module _ {sheet : List CoreNode} {start : Counts} {ss : List State} {xs : List A
         same =
             ap (λ n. advance sheet (room_in space) n (config_of r ss'' xs'' ps'')) less
             ∙ ap (advance sheet (room_in space) (allowance - made - 1)) t.config
-            ∙ advance_on sheet (room_in space) here (allowance - made) _ _ _ (omega arith) (top c.pending ps' d more fits) (ap (λ s. within (room_in s) (one_step sheet here) running) (sym is) ∙ t.room)
+            ∙ advance_on sheet (room_in space) here (allowance - made) _ _ _ (omega arith) (top c.pending ps' none more fits) (ap (λ s. within (room_in s) (one_step sheet here) running) (sym is) ∙ t.room)
             ∙ g.same;
         kept = record {
           states = k'.states ∙ kept_later c.states r.states ss ss' t.more_states k.states;

@@ -1,7 +1,9 @@
 // The most of each list that a translation uses: docs/TRANSLATION.md.
 
-/// The most nodes of a core form: more are refused (7).
-pub const MOST_CORES: usize = 64;
+use coreform::draft::MOST_NODES;
+
+/// The most nodes of a core form, 64: more are refused (7).
+pub const MOST_CORES: usize = MOST_NODES;
 
 /// The most untils of a core form, each of which has a mark set: more are refused (8).
 pub const MOST_UNTILS: u8 = 16;

@@ -5,6 +5,7 @@ ghost use Rattle.automata.specs.Sets.{has, insert as inserted, remove as removed
 
 use automata::nodes::CoreSet;
 
+#[tactic(auto, using(std::proofs::lemmas::Nat::and_mask))]
 pub(crate) fn contains(members: CoreSet, k: u8) -> bool
     requires { k < 64 }
     ensures { result ≡ has members k }

@@ -17,7 +17,7 @@ pub(crate) struct Sheet<'a> {
 #[derive(Clone, Copy)]
 pub(crate) struct Checked {
     pub node: CoreNode,
-    ghost sound: { sound_on 64 node ≡ true },
+    ghost sound: { sound_on MOST_CORES node ≡ true },
 }
 
 fn both_below(n: usize, a: u8, b: u8) -> bool

@@ -40,10 +40,8 @@ fn turn(
     requires lists { (space.states ≤ length states.old) × ((space.arcs ≤ length arcs.old) × (space.pending ≤ length pending.old)) }
     ensures { Turned sheet.now.nodes.now space counts states.old arcs.old pending.old result states.new arcs.new pending.new }
 {
-    let made = counts.states;
-    let joined = counts.arcs;
     let item = pending[counts.pending - 1];
-    let plan = plan_for(sheet, &states[..made], &arcs[..joined], item);
+    let plan = plan_for(sheet, &states[..counts.states], &arcs[..counts.arcs], item);
     check_room(&plan, counts, space)?;
     Ok(plan.write(counts, states, arcs, pending))
 }
