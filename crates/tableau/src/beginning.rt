@@ -1,6 +1,7 @@
 // The beginning of a translation.
 ghost use Rattle.std.specs.Prelude.{◌≡◌, ℕ, ◌<◌, ◌≤◌, ◌++◌, length, drop};
 ghost use Rattle.tableau.specs.Beginning.{first_item, begins, Begins};
+ghost use Rattle.tableau.specs.Limits.{Limits};
 
 use crate::fault::{BeginFault, LentList, check_length};
 use crate::limits::MOST_UNTILS;
@@ -35,7 +36,8 @@ pub fn begin(
     sheet: &mut [CoreNode],
     pending: &mut [Item],
 ) -> Result<Running, BeginFault>
-    ensures { Begins book.now place sheet.old pending.old (begins result) sheet.new pending.new }
+    ensures begins { Begins book.now place sheet.old pending.old (begins result) sheet.new pending.new }
+    ensures limits { Limits }
 {
     let form = core_form(book, place)?;
     let nodes = form.nodes();

@@ -3,6 +3,7 @@ ghost use Rattle.std.specs.Prelude.{◌≡◌, ◌≤◌};
 ghost use Rattle.std.specs.Result.{result_err};
 ghost use Rattle.tableau.specs.declared.limits.TheConstants.{MOST_STATES, MOST_ARCS, MOST_PENDING};
 ghost use Rattle.tableau.specs.Ends.{stopped_told};
+ghost use Rattle.tableau.specs.Limits.{Limits};
 ghost use Rattle.tableau.specs.Stepping.{lists, standing, short_list, progress_told, told, Steps};
 
 use crate::fault::{LentList, ShortFault, check_length};
@@ -66,7 +67,8 @@ pub fn step(
     pending: &mut [Item],
     allowance: u16,
 ) -> Result<Progress, StepRefused>
-    ensures { Steps (standing translation) (lists sheet.now states.old arcs.old pending.old) allowance (told result) (lists sheet.now states.new arcs.new pending.new) }
+    ensures steps { Steps (standing translation) (lists sheet.now states.old arcs.old pending.old) allowance (told result) (lists sheet.now states.new arcs.new pending.new) }
+    ensures limits { Limits }
 {
     match check_lists(&translation, sheet, states, arcs, pending) {
         Err(fault) => Err(StepRefused { translation, fault }),
