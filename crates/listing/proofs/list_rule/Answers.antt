@@ -18,14 +18,14 @@ pub returns-in_err-running : goal.returns-in_err-running
 returns-in_err-running c =
     let p = err_from_is_err_and c.from_residual-in_err-running.result c.from_residual-in_err-running.ensures.1 in
     unbegun (subst (λ b. Reads b c.args.file.now (rule c.in_ok-place.place) c.read.new.book) c.new-book.ensures c.in_ok-place.ensures.reads)
-    c.in_err-running.ensures (p.1 ∙ ap Err p.2) refl
+    c.in_err-running.ensures.begins (p.1 ∙ ap Err p.2) refl
 
 pub step_on-requires : goal.step_on-requires
 step_on-requires c =
     begun_long c.read.new.book c.in_ok-place.place (lists c.args.sheet.now c.args.states.now c.args.arcs.now c.args.pending.now)
-    (standing c.in_ok-running.running) c.begin.new.sheet c.begin.new.pending c.in_ok-running.ensures
+    (standing c.in_ok-running.running) c.begin.new.sheet c.begin.new.pending c.in_ok-running.ensures.begins
 
 pub returns : goal.returns
 returns c =
     begun (subst (λ b. Reads b c.args.file.now (rule c.in_ok-place.place) c.read.new.book) c.new-book.ensures c.in_ok-place.ensures.reads)
-    c.in_ok-running.ensures c.step_on.ensures refl
+    c.in_ok-running.ensures.begins c.step_on.ensures refl
