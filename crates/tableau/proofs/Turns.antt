@@ -3,13 +3,13 @@ use Rattle.std.proofs.Common.{◌≡◌, ℕ, ◌+◌, ◌-◌, ◌<◌, ◌≤�
 use Rattle.std.proofs.lemmas.List.{length-take-le, length-reverse}
 use Rattle.std.proofs.lemmas.Bool.{ltb-false}
 use Rattle.std.specs.Result.{IsErrAnd}
-use Rattle.automata.specs.Steps.{Config, Progressed, running, no_room, within, one_step}
+use Rattle.automata.specs.Steps.{Config, Progressed, running, no_room, within, step_with, one_step}
 use Rattle.automata.specs.Steps.{steps as no_steps, states as no_states, arcs as no_arcs, pending as no_pending}
 use Rattle.automata.specs.declared.items.Arc.{Arc}
 use Rattle.automata.specs.declared.items.Item.{Item}
 use Rattle.automata.specs.declared.items.State.{State}
 use Rattle.automata.specs.declared.nodes.CoreNode.{CoreNode}
-use Rattle.tableau.specs.Plans.{planned, new_states, new_arcs, new_items, applied, states_with, arcs_with, items_with}
+use Rattle.tableau.specs.Plans.{DoesStep, new_states, new_arcs, new_items, applied, states_with, arcs_with, items_with}
 use Rattle.tableau.specs.Rooms.{counts_with, lack_of, Within}
 use Rattle.tableau.specs.Stepping.{lacking_of}
 use Rattle.tableau.specs.Walks.{config_of, room_in, Went, Turned}
@@ -18,7 +18,6 @@ use Rattle.tableau.specs.declared.rooms.Counts.{Counts}
 use Rattle.tableau.specs.declared.rooms.Space.{Space}
 use Rattle.tableau.specs.declared.translation.Lack.{Lack}
 use Rattle.tableau.specs.declared.translation.Lack.TheVariants.{Steps, States, Arcs, Pending}
-use Rattle.tableau.proofs.Planned.{planned_step}
 use Rattle.tableau.proofs.Written.{top, states_added, arcs_added, items_put, items_long}
 
 verdict : Option Lack → Progressed
@@ -62,7 +61,7 @@ enough p c s e =
 
 module _ (sheet : List CoreNode) (s : Space) (c : Counts) (ss : List State) (xs : List Arc) (ps : List Item) (d : Item) (p : Plan)
     (inside : Within c s) (some : 0 < c.pending) (long_s : s.states ≤ length ss) (long_a : s.arcs ≤ length xs) (long_p : s.pending ≤ length ps)
-    (is : p ≡ planned sheet (take c.states ss) (take c.arcs xs) (get_or ps (c.pending - 1) d)) where
+    (is : DoesStep sheet (take c.states ss) (take c.arcs xs) (get_or ps (c.pending - 1) d) p) where
   abbrev before : Config
   before = config_of c ss xs ps
 
@@ -71,8 +70,7 @@ module _ (sheet : List CoreNode) (s : Space) (c : Counts) (ss : List State) (xs 
 
   step_is : one_step sheet before ≡ applied p left before
   step_is =
-      planned_step sheet (get_or ps (c.pending - 1) d) left before (top c.pending ps d some (omega (arith, inside.pending)))
-      ∙ ap (λ q. applied q left before) (sym is)
+      ap (λ q. step_with sheet q before) (top c.pending ps d some (omega (arith, inside.pending))) ∙ is before left refl refl
 
   states_count : length (before.states ++ new_states p) ≡ c.states + length (new_states p)
   states_count = length-append before.states (new_states p) ∙ ap (λ n. n + length (new_states p)) (length-take-le c.states ss (omega (arith, inside.states)))

@@ -2,10 +2,10 @@
 ghost use Rattle.std.specs.Prelude.{◌≡◌, ◌<◌, ◌≤◌, length};
 ghost use Rattle.std.specs.List.{position};
 ghost use Rattle.automata.specs.Sets.{lowest as lowest_of};
-ghost use Rattle.automata.specs.Steps.{drops as is_dropped, item as item_of};
+ghost use Rattle.automata.specs.Steps.{drops as is_dropped, item as item_of, split, taken};
 ghost use Rattle.tableau.specs.declared.limits.TheConstants.{MOST_STATES};
 ghost use Rattle.tableau.specs.Nodes.{is_state};
-ghost use Rattle.tableau.specs.Plans.{split_plan, taken_plan, join_plan, settle_plan, planned};
+ghost use Rattle.tableau.specs.Plans.{Puts, DoesStep, join_plan, settle_plan};
 
 use crate::sets::{contains, insert, join, lowest, remove};
 use crate::sheets::{Checked, Sheet};
@@ -55,7 +55,7 @@ fn with(item: Item, new: CoreSet, next: CoreSet) -> Item
 // The items that take the place of an item from which node k was taken.
 fn split(read: Checked, k: u8, item: Item) -> Plan
     requires { k < 64 }
-    ensures { result ≡ split_plan read.node k item.source item.new item.old item.next }
+    ensures { Puts (split read.node k item.source item.new item.old item.next) result }
 {
     let new = item.new;
     let old = item.old;
@@ -83,7 +83,7 @@ fn split(read: Checked, k: u8, item: Item) -> Plan
 // The lowest number leaves New.
 fn plan_taken(sheet: &Sheet<'_>, item: Item) -> Plan
     requires { 0 < item.new.bits }
-    ensures { result ≡ taken_plan sheet.now.nodes.now (lowest_of item.new) item }
+    ensures { Puts (taken sheet.now.nodes.now (lowest_of item.new) item) result }
 {
     let k = lowest(item.new);
     let read = sheet.node_at(k);
@@ -149,7 +149,7 @@ fn plan_settled(sheet: &Sheet<'_>, states: &[State], arcs: &[Arc], item: Item) -
 // The plan for the item that was put in last, by the states and arcs there are.
 pub(crate) fn plan_for(sheet: &Sheet<'_>, states: &[State], arcs: &[Arc], item: Item) -> Plan
     requires { length states.now ≤ MOST_STATES }
-    ensures { result ≡ planned sheet.now.nodes.now states.now arcs.now item }
+    ensures { DoesStep sheet.now.nodes.now states.now arcs.now item result }
 {
     if item.new.bits == 0 {
         plan_settled(sheet, states, arcs, item)
