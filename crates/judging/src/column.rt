@@ -25,6 +25,7 @@ fn next_scan<R: Recording>(recording: &R, scan: usize) -> usize
 }
 
 // The turn of a node at a scan, from the truths of its operands.
+// Kept: the new form is no plainer: with the list in a type, each function that writes would promise its length and its loan.
 fn turn_at<R: Recording>(node: Node, recording: &R, work: &[u64], scan: usize) -> Turn
     requires { (fits_at node 256 ≡ true) × ((scan < length (R.meaning recording.now).words) × (4 * length (R.meaning recording.now).words ≤ length work.now)) }
     ensures hold { result.hold ≡ node_hold node (slice_index (R.meaning recording.now).words scan) (told work.now scan) (told work.now (following (length (R.meaning recording.now).words) (R.meaning recording.now).start scan)) }

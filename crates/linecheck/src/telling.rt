@@ -4,7 +4,6 @@ use crate::judged::{Judged, Kind};
 use crate::text::{Expected, TextFault};
 use judging::fault::JudgeFault;
 use models::fault::RecordingFault;
-use rules::fault::EnterFault;
 use rules::reading::FileFault;
 use std::fmt;
 use std::io::ErrorKind;
@@ -48,32 +47,6 @@ pub(crate) struct Sentence<'a> {
     pub cause: NoVerdict,
 }
 
-// A command that is refused, as the end of a sentence.
-#[derive(Clone, Copy)]
-struct CommandCause(EnterFault);
-
-impl fmt::Display for CommandCause {
-    fn fmt<W: fmt::Write>(&self, f: &mut fmt::Formatter<W>) -> fmt::Result {
-        match self.0 {
-            EnterFault::UnknownCommand(byte) => write!(
-                f,
-                "no command begins with the byte {byte:02x}"
-            ),
-            EnterFault::Truncated => write!(f, "the file ends inside this command"),
-            EnterFault::SignalAbove(signal) => write!(
-                f,
-                "there is no signal {signal}; signals are 0 to 63"
-            ),
-            EnterFault::NotEntered(place) => write!(
-                f,
-                "there is no node yet at place {}",
-                place.index
-            ),
-            EnterFault::Full => write!(f, "the book is full; it has room for 256 nodes"),
-        }
-    }
-}
-
 // What a line should have been, as the end of a sentence.
 impl fmt::Display for Expected {
     fn fmt<W: fmt::Write>(&self, f: &mut fmt::Formatter<W>) -> fmt::Result {
@@ -112,8 +85,7 @@ fn rule_fault<W: fmt::Write>(
             )
         }
         FileFault::Command { start, fault } => {
-            let cause = CommandCause(fault);
-            write!(f, "refused {number} at byte {start} of {file}: {cause}")
+            write!(f, "refused {number} at byte {start} of {file}: {fault}")
         }
     }
 }

@@ -1,6 +1,7 @@
 // Why there is no automaton of a rule file.
 ghost use Rattle.std.specs.Prelude.{◌≡◌};
 ghost use Rattle.listing.specs.Refusals.{list_number, list_start};
+ghost use Rattle.listing.specs.Texts.{stage_text};
 ghost use Rattle.rules.specs.Refusals.{file_fault};
 ghost use Rattle.listing.specs.declared.fault.ListFault.TheVariants.{Read as AtRead, Begin as AtBegin};
 
@@ -9,7 +10,7 @@ use rules::reading::ReadFault;
 use tableau::fault::BeginFault;
 
 /// The stage that refuses, and why (docs/REFUSALS.md).
-#[derive(Clone, Copy)]
+#[derive(Clone, Copy, Debug, PartialEq, Eq)]
 pub enum ListFault {
     Read(FileFault),
     Begin(BeginFault),
@@ -39,6 +40,16 @@ impl ListFault {
         match *self {
             ListFault::Read(fault) => fault.number(),
             ListFault::Begin(fault) => fault.number(),
+        }
+    }
+
+    /// The stage that refuses, `read` or `begin`.
+    pub fn stage(&self) -> &'static str
+        ensures { result.now ≡ stage_text self.now }
+    {
+        match *self {
+            ListFault::Read(_) => "read",
+            ListFault::Begin(_) => "begin",
         }
     }
 

@@ -17,8 +17,9 @@ use tableau::translation::{Progress, Running};
 
 pub mod fault;
 pub mod outcome;
+pub mod text;
 
-// How many steps a call may make: the most that a call takes.
+// How many steps a call of step may make: the most that one takes.
 const ALLOWANCE: u16 = 65535;
 
 // One call of step, on lists that are long enough for what is in use of them.
@@ -61,7 +62,9 @@ fn step_on(
     }
 }
 
-// Reads a rule file into a new book, and translates its rule over the lists that the caller lends.
+/// Reads a rule file of 1 to 4,096 bytes into a new book, and translates its rule over the lists that the caller
+/// lends. Refusals are those of reading (1 to 6) and of beginning (7, 8, 9, 11), in that order; a refused job
+/// leaves the lists as they were. The rule is in `docs/TRANSLATION.md`, the numbers in `docs/REFUSALS.md`.
 pub fn list_rule(
     file: &[u8],
     sheet: &mut [CoreNode],
@@ -75,4 +78,40 @@ pub fn list_rule(
     let place = read(&mut book, file)?;
     let running = begin(&book, place, sheet, pending)?;
     Ok(step_on(running, sheet, states, arcs, pending))
+}
+
+#[cfg(test)]
+mod tests {
+    use crate::fault::{FileFault, ListFault};
+    use crate::text::{ArcLine, HeadLine, StateLine};
+    use automata::items::{Arc, State};
+    use std::alloc::AllocError;
+    use tableau::translation::Lack;
+
+    #[test]
+    fn lines(rt: HostRuntime) -> Result<(), AllocError> {
+        let heap = rt.alloc();
+        let head = HeadLine::Automaton {
+            states: 3,
+            arcs: 6,
+            sets: 1,
+            steps: 12,
+        };
+        assert_eq!(rt; format!(in heap; "{head}")?.as_str(), "A 3 6 1 12");
+        let head = HeadLine::NoRoom(Lack::Pending);
+        assert_eq!(rt; format!(in heap; "{head}")?.as_str(), "N pending");
+        let head = HeadLine::Refused(ListFault::Read(FileFault::Size(4097)));
+        assert_eq!(rt; format!(in heap; "{head}")?.as_str(), "R 1 read 0");
+        let state = State {
+            on: 31,
+            off: 0,
+            marks: 2,
+            ..State::default()
+        };
+        let line = StateLine { number: 10, state };
+        assert_eq!(rt; format!(in heap; "{line}")?.as_str(), "S 10 1f 0 2");
+        let line = ArcLine(Arc { from: 0, to: 10 });
+        assert_eq!(rt; format!(in heap; "{line}")?.as_str(), "E 0 10");
+        Ok(())
+    }
 }

@@ -2,7 +2,6 @@
 #![tactic(auto)]
 
 mod lines;
-mod lists;
 mod runs;
 
 fn main(rt: HostRuntime) -> anyhow::Result<()> {

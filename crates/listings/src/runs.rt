@@ -1,19 +1,21 @@
 // Each case is a line that begins with `<` and has the bytes of a rule file, and below it the lines that are expected.
 use crate::lines::{line_at, line_count};
-use crate::lists::{Lists, Told, list_file, new_lists};
 use anyhow::anyhow;
+use listing::text::HeadLine;
+use lists::LongestLists;
 use std::alloc::{AllocError, Global};
 use std::io::{BufRead, BufReader};
 use texts::hex_word;
 
-// A case under way: what becomes of its file, how many lines have come, and whether each was as expected.
+// A case under way: the first line of its listing, how many lines have come, and whether each was as expected.
 #[derive(Clone, Copy)]
 struct Case {
-    told: Told,
+    head: HeadLine,
     lines: usize,
     agrees: bool,
 }
 
+// Kept: the new form is no plainer: shared with `examples`, whose cases have one line, it would be a crate for two counts.
 #[derive(Clone, Copy)]
 struct Tally {
     cases: u64,
@@ -21,35 +23,38 @@ struct Tally {
 }
 
 // The bytes of a text; what is no byte counts as 255, which begins no command.
+// Kept: a rule of the project, the program's behavior: such a case is refused by reading, and not passed over.
 fn bytes_of(heap: Global, text: &str) -> Result<Vec<u8>, AllocError> {
     let mut bytes = Vec::new(heap);
     for part in text.split_whitespace() {
-        let byte = match hex_word(part.as_bytes()) {
-            Some(word) => u8::try_from(word).unwrap_or(255),
-            None => 255,
-        };
-        bytes.push(byte)?;
+        let byte = hex_word(part.as_bytes()).and_then(|word| u8::try_from(word).ok());
+        bytes.push(byte.unwrap_or(255))?;
     }
     Ok(bytes)
 }
 
-fn begin_case(heap: Global, lists: &mut Lists, text: &str) -> Result<Case, AllocError> {
+fn begin_case(heap: Global, lists: &mut LongestLists, text: &str) -> Result<Case, AllocError> {
     let file = bytes_of(heap, text)?;
-    let told = list_file(lists, file.as_slice());
+    let head = HeadLine::of(&lists.list_rule(file.as_slice()));
     Ok(Case {
-        told,
+        head,
         lines: 0,
         agrees: true,
     })
 }
 
 // The case after one more of its lines.
-fn take_line(heap: Global, lists: &Lists, case: Case, line: &str) -> Result<Case, AllocError> {
-    let expected = line_at(heap, lists, case.told, case.lines)?;
+fn take_line(
+    heap: Global,
+    lists: &LongestLists,
+    case: Case,
+    line: &str,
+) -> Result<Case, AllocError> {
+    let expected = line_at(heap, lists, case.head, case.lines)?;
     Ok(Case {
-        told: case.told,
         lines: case.lines.saturating_add(1),
-        agrees: case.agrees && expected.as_str() == line,
+        agrees: case.agrees && expected.is_some_and(|expected| expected.as_str() == line),
+        ..case
     })
 }
 
@@ -60,7 +65,7 @@ fn end_case(rt: &HostRuntime, tally: Tally, case: Option<Case>) -> anyhow::Resul
     };
     let cases = tally.cases.saturating_add(1);
     let mut expected = tally.expected;
-    if case.agrees && case.lines == line_count(case.told) {
+    if case.agrees && case.lines == line_count(case.head) {
         expected = expected.saturating_add(1);
     } else {
         println!(rt; "case {cases} is not as expected")?;
@@ -71,7 +76,7 @@ fn end_case(rt: &HostRuntime, tally: Tally, case: Option<Case>) -> anyhow::Resul
 // Runs the cases of standard input, and says how many are as expected.
 pub(crate) fn run_cases(rt: &HostRuntime) -> anyhow::Result<()> {
     let heap = rt.alloc();
-    let mut lists = new_lists(heap)?;
+    let mut lists = LongestLists::new(heap)?;
     let mut tally = Tally {
         cases: 0,
         expected: 0,

@@ -25,6 +25,7 @@ pub trait Recording {
         ensures { result ≡ (meaning self.now).start };
 
     /// The word of a scan, and 0 where there is no such scan.
+    // Kept: a rule of the project, a public promise: it is 0 past the last scan, and no `Option`.
     fn word(&self, scan: usize) -> u64
         ensures { result ≡ slice_index (meaning self.now).words scan };
 }

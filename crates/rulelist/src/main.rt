@@ -2,7 +2,6 @@
 #![tactic(auto)]
 
 mod task;
-mod telling;
 
 fn main(rt: HostRuntime) -> anyhow::Result<()> {
     task::run(&rt)
