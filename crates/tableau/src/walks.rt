@@ -28,6 +28,7 @@ fn space_in(states: &[State], arcs: &[Arc], pending: &[Item]) -> Space
 }
 
 // One step: there is a pending item.
+// Kept: the new form is no plainer: with the lists in a type, each call would promise their lengths and their loans.
 fn turn(
     counts: Counts,
     space: Space,
