@@ -9,7 +9,8 @@ use automata::nodes::{CoreNode, CoreSet};
 
 // The mark set j, if it is the one of node k and an Old bears it.
 fn mark_of(read: Checked, k: u8, old: CoreSet, j: u8) -> u64
-    requires { (k < 64) × (j < 64) }
+    requires node { k < 64 }
+    requires set { j < 64 }
     ensures { result ≡ mark_of read.node k old j }
 {
     match read.node {
