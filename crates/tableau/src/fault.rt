@@ -7,6 +7,7 @@ ghost use Rattle.tableau.specs.declared.fault.BeginFault.TheVariants.{Form as No
 use coreform::form::FormFault;
 
 /// A list that the caller lends.
+// Kept: a rule of the project: each crate names the lists that its own calls are lent, here four.
 #[derive(Clone, Copy, PartialEq, Eq, Debug)]
 pub enum LentList {
     Sheet,
@@ -25,6 +26,7 @@ pub struct ShortFault {
 
 impl ShortFault {
     /// The number of the refusal: 11.
+    // Kept: a public promise, and docs/REFUSALS.md lists the numbers.
     pub fn number(&self) -> u8
         ensures { result ≡ step_number self.now }
     {
@@ -72,6 +74,7 @@ impl From<ShortFault> for BeginFault {
 
 impl BeginFault {
     /// The number of the refusal: 7, 8, 9 or 11.
+    // Kept: a public promise, and docs/REFUSALS.md lists the numbers.
     pub fn number(&self) -> u8
         ensures { result ≡ begin_number self.now }
     {

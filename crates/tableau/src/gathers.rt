@@ -9,7 +9,8 @@ use automata::nodes::{CoreNode, CoreSet};
 
 // The mark set j, if it is the one of node k and an Old bears it.
 fn mark_of(read: Checked, k: u8, old: CoreSet, j: u8) -> u64
-    requires { (k < 64) × (j < 64) }
+    requires node { k < 64 }
+    requires set { j < 64 }
     ensures { result ≡ mark_of read.node k old j }
 {
     match read.node {
@@ -25,7 +26,7 @@ impl Sheet<'_> {
         ensures { (bit : _) → ((n : _) (r : _) → F.post literal n r → r ≡ bit n.node) → result ≡ signals bit self.now.nodes.now old (length self.now.nodes.now) }
     {
         let mut signals = 0;
-        // Kept: k is a core number, looked for in Old; node_at reads its node, so no index is counted by hand
+        // Kept: the new form is no plainer: k is a core number that is looked for in Old, and node_at reads its node.
         for k in 0..self.nodes.len() as u8 {
             if contains(old, k) {
                 signals |= literal(self.node_at(k));
@@ -71,7 +72,7 @@ impl Sheet<'_> {
     }
 
     // How many untils there are: each has a mark set.
-    // Kept: counted k by k as untils_below is defined; filter and count would need a closure over node_at as long
+    // Kept: the new form is no plainer: a filter and a count need a closure over node_at, and the count another definition.
     pub(crate) fn count_untils(&self) -> u8
         ensures { result ≡ untils_below self.now.nodes.now (length self.now.nodes.now) }
     {

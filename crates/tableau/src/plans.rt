@@ -13,6 +13,7 @@ use automata::items::{Arc, Item, State};
 use automata::nodes::{CoreNode, CoreSet};
 
 // What joins the lists in the place of the item that was put in last.
+// Kept: the new form is no plainer: the variants are data, which the methods match.
 #[derive(Clone, Copy)]
 pub(crate) enum Plan {
     Nothing,

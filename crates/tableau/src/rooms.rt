@@ -62,7 +62,8 @@ impl Plan {
 
 // Refuses a plan for which there is no room, by the first of the four that lacks.
 pub(crate) fn check_room(plan: &Plan, counts: Counts, space: Space) -> Result<(), Lack>
-    requires { (Within counts space) × (0 < counts.pending) }
+    requires inside { Within counts space }
+    requires some { 0 < counts.pending }
     ensures { result_err result ≡ lack_of plan.now counts space }
 {
     if counts.steps == MOST_STEPS {

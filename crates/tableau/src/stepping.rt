@@ -37,7 +37,9 @@ fn check_lists(
 
 // What the steps have come to.
 fn progress(before: Totals, stopped: Stopped) -> Progress
-    requires { (stopped.counts.states ≤ MOST_STATES) × ((stopped.counts.arcs ≤ MOST_ARCS) × (stopped.counts.pending ≤ MOST_PENDING)) }
+    requires states { stopped.counts.states ≤ MOST_STATES }
+    requires arcs { stopped.counts.arcs ≤ MOST_ARCS }
+    requires pending { stopped.counts.pending ≤ MOST_PENDING }
     ensures { progress_told result ≡ stopped_told before.cores before.sets stopped }
 {
     let counts = stopped.counts;

@@ -28,6 +28,7 @@ fn space_in(states: &[State], arcs: &[Arc], pending: &[Item]) -> Space
 }
 
 // One step: there is a pending item.
+// Kept: the new form is no plainer: with the lists in a type, each call would promise their lengths and their loans.
 fn turn(
     counts: Counts,
     space: Space,
@@ -36,8 +37,11 @@ fn turn(
     arcs: &mut [Arc],
     pending: &mut [Item],
 ) -> Result<Counts, Lack>
-    requires inside { (Within counts space) × (0 < counts.pending) }
-    requires lists { (space.states ≤ length states.old) × ((space.arcs ≤ length arcs.old) × (space.pending ≤ length pending.old)) }
+    requires inside { Within counts space }
+    requires some { 0 < counts.pending }
+    requires states { space.states ≤ length states.old }
+    requires arcs { space.arcs ≤ length arcs.old }
+    requires pending { space.pending ≤ length pending.old }
     ensures { Turned sheet.now.nodes.now space counts states.old arcs.old pending.old result states.new arcs.new pending.new }
 {
     let item = pending[counts.pending - 1];
@@ -55,7 +59,7 @@ pub(crate) fn advance(
     pending: &mut [Item],
     allowance: u16,
 ) -> Stopped
-    requires inside { Within start (space_of states.old arcs.old pending.old) }
+    requires { Within start (space_of states.old arcs.old pending.old) }
     ensures { Walked sheet.now.nodes.now start states.old arcs.old pending.old allowance result states.new arcs.new pending.new }
 {
     let space = space_in(states, arcs, pending);

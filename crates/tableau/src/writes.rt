@@ -33,7 +33,8 @@ impl Plan {
 
     // The first n items are in use: from the place of the last of them on, which is taken.
     fn write_items(&self, pending: &mut [Item], n: usize)
-        requires { (0 < n) × (n - 1 + length (new_items self.now) ≤ length pending.old) }
+        requires some { 0 < n }
+        requires room { n - 1 + length (new_items self.now) ≤ length pending.old }
         ensures { pending.new ≡ items_with self.now n pending.old }
     {
         match *self {
@@ -54,7 +55,8 @@ impl Plan {
         arcs: &mut [Arc],
         pending: &mut [Item],
     ) -> Counts
-        requires some { (0 < counts.pending) × (counts.steps < MOST_STEPS) }
+        requires some { 0 < counts.pending }
+        requires steps { counts.steps < MOST_STEPS }
         requires states { counts.states + length (new_states self.now) ≤ length states.old }
         requires arcs { counts.arcs + length (new_arcs self.now) ≤ length arcs.old }
         requires pending { counts.pending - 1 + length (new_items self.now) ≤ length pending.old }
