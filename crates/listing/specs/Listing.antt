@@ -1,5 +1,6 @@
 -- What a call of list_rule answers, and what it makes of the lists that it is lent.
 use Rattle.std.specs.Prelude.{◌≡◌, ℕ, Bool, true, false, List, [], Ok, Err, Result}
+use Rattle.rules.specs.HandedBack.{told_of}
 use Rattle.rules.specs.Reading.{Reads, rule}
 use Rattle.rules.specs.declared.node.Node.{Node}
 use Rattle.rules.specs.declared.node.Place.{Place}
@@ -9,7 +10,7 @@ use Rattle.automata.specs.declared.nodes.CoreNode.{CoreNode}
 use Rattle.tableau.specs.Beginning.{Begins}
 use Rattle.tableau.specs.Stepping.{Lists, lists, Standing, standing, ended, Answer, refusal, progress, lacking_of, Steps}
 use Rattle.tableau.specs.declared.fault.BeginFault.{BeginFault}
-use Rattle.listing.specs.Refusals.{told_of, Sized}
+use Rattle.listing.specs.Refusals.{Sized}
 use Rattle.rules.specs.declared.reading.FileFault.{FileFault}
 use Rattle.listing.specs.declared.fault.ListFault.{ListFault}
 use Rattle.listing.specs.declared.fault.ListFault.TheVariants.{Read, Begin}

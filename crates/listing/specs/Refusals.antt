@@ -1,17 +1,11 @@
 -- What the refusals say.
 use Rattle.std.specs.Prelude.{◌≡◌, ℕ, List, length}
-use Rattle.rules.specs.Reading.{Reading, wrong_size, refused}
 use Rattle.rules.specs.Refusals.{file_number, file_start}
 use Rattle.rules.specs.declared.reading.FileFault.{FileFault}
 use Rattle.rules.specs.declared.reading.FileFault.TheVariants.{Size, Command}
 use Rattle.tableau.specs.Refusals.{begin_number}
 use Rattle.listing.specs.declared.fault.ListFault.{ListFault}
 use Rattle.listing.specs.declared.fault.ListFault.TheVariants.{Read, Begin}
-
--- the answer of reading that a refusal stands for
-abbrev pub told_of : FileFault → Reading
-told_of (Size n) = wrong_size
-told_of (Command start fault) = refused fault start
 
 -- the size that it names is the file's
 abbrev pub Sized : List ℕ → FileFault → Type 0

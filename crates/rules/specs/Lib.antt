@@ -1,3 +1,4 @@
+pub mod Causes
 pub mod Commands
 pub mod Decoding
 pub mod Entering

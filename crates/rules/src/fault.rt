@@ -1,5 +1,6 @@
 // Why a command is refused, in the order in which the causes are looked for.
-ghost use Rattle.std.specs.Prelude.{◌≡◌};
+ghost use Rattle.std.specs.Prelude.{◌≡◌, Some};
+ghost use Rattle.rules.specs.Causes.{cause_text};
 ghost use Rattle.rules.specs.Refusals.{enter_number};
 
 use crate::node::Place;
@@ -38,6 +39,9 @@ impl EnterFault {
 
 /// The cause, as the end of a sentence about a command of a file.
 impl fmt::Display for EnterFault {
+    ghost output = { λ fault. Some (cause_text fault) };
+
+    #[tactic(auto, using(std::proofs::lemmas::Fmt::hex_byte))]
     fn fmt<W: fmt::Write>(&self, f: &mut fmt::Formatter<W>) -> fmt::Result {
         match *self {
             EnterFault::UnknownCommand(byte) => write!(
