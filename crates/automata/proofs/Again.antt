@@ -111,9 +111,6 @@ put_again n xs ys = go (put_case n xs)
 abbrev pub Begins : List CoreNode → List CoreNode → Type 0
 Begins xs xs' = (ys : List CoreNode) × (xs' ≡ xs ++ ys)
 
-pub begins_self : (xs : List CoreNode) → Begins xs xs
-begins_self xs = ([], sym (append-nil xs))
-
 pub begins_trans : (xs ys zs : List CoreNode) → Begins xs ys → Begins ys zs → Begins xs zs
 begins_trans xs ys zs (u, e) (v, f) = (u ++ v, f ∙ ap (λ y. y ++ v) e ∙ append_assoc xs u v)
 

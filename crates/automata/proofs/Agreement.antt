@@ -1,5 +1,5 @@
--- On every lasso each rule is decided, its core form holds exactly where it does, and that of its denial exactly
--- where it does not.
+-- On every lasso the core form of a rule holds exactly where the rule does, and that of its denial exactly where it
+-- does not.
 use Rattle.std.proofs.Common.{◌≡◌, ℕ, zero, suc, ◌+◌, ◌-◌, ◌<◌, ◌≤◌, true, false, ◌⊎◌, ◌↔◌, length, get_or, sym, ap, ◌∙◌, subst, inl, inr, arith}
 use native.Mathlib.Decide.{dec_le, dec_lt, ℕ_discrete}
 use Rattle.rules.specs.declared.node.BinaryOp.{BinaryOp}
@@ -305,9 +305,6 @@ module _ (l : Lasso) (inside : l.start < length l.words) where
   agrees (Atom s) = signal s
   agrees (One op a) = agrees_unary op a (agrees a)
   agrees (Two op a b) = agrees_binary op a b (agrees a) (agrees b)
-
-  pub rule_decided : (r : Rule) (i : ℕ) → Dec (Holds r word i)
-  rule_decided r i = (agrees r).good.dec i
 
   pub core_right : (r : Rule) (i : ℕ) → Holds r word i ↔ Satisfied (core_of r true) word i
   core_right r i = ((agrees r).to i, (agrees r).from i)

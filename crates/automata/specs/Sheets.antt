@@ -1,7 +1,6 @@
 -- The core form written on a sheet: nodes are numbered as they are made, left to right, inner before outer,
 -- an equal node being used again.
-use Rattle.std.specs.Prelude.{ℕ, suc, Bool, true, cond, ◌&&◌, List, [], ◌∷◌, ◌++◌, length, ◌==◌, nat_eq, nat_lt}
-use Rattle.std.specs.Cmp.{IsPartialEquivalence, partial_equiv_from_equiv, nat_eq_equiv, on_per, and_per}
+use Rattle.std.specs.Prelude.{ℕ, suc, Bool, true, cond, ◌&&◌, List, [], ◌∷◌, ◌++◌, length, ◌==◌, nat_lt}
 use Rattle.automata.specs.Cores.{Core, ctrue, cfalse, con, coff, cnext, cand, cor, cuntil, crelease, core_of}
 use Rattle.automata.specs.declared.nodes.CoreNode.{CoreNode}
 use Rattle.automata.specs.declared.nodes.CoreNode.TheVariants.{True, False, On, Off, Next, And, Or, Until, Release}
@@ -22,14 +21,6 @@ parts (Release a b) = (8, a, b)
 -- whether two nodes are equal
 unfoldable pub same : CoreNode → CoreNode → Bool
 same x y = (parts x).0 == (parts y).0 && ((parts x).1 == (parts y).1 && (parts x).2 == (parts y).2)
-
--- so it is symmetric and transitive
-pub same_laws : IsPartialEquivalence same
-unfolding same
-same_laws = and_per (on_per (λ n. (parts n).0) numbers) (and_per (on_per (λ n. (parts n).1) numbers) (on_per (λ n. (parts n).2) numbers))
-  where
-    numbers : IsPartialEquivalence nat_eq
-    numbers = partial_equiv_from_equiv nat_eq_equiv
 
 -- the number of a node: where it stands on the sheet, or the next free number
 abbrev pub number_on : CoreNode → List CoreNode → ℕ

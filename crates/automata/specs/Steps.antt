@@ -27,27 +27,13 @@ node_on sheet k = checked (length sheet) (slice_index_or sheet k False)
 -- ---- what a state keeps
 -- the signal of an on literal, as a bit of a word; no bit of any other node
 abbrev pub on_bit : CoreNode → ℕ
-on_bit True = 0
-on_bit False = 0
 on_bit (On s) = 2 ^ s
-on_bit (Off s) = 0
-on_bit (Next a) = 0
-on_bit (And a b) = 0
-on_bit (Or a b) = 0
-on_bit (Until a b) = 0
-on_bit (Release a b) = 0
+on_bit node = 0
 
 -- the signal of an off literal, as a bit of a word; no bit of any other node
 abbrev pub off_bit : CoreNode → ℕ
-off_bit True = 0
-off_bit False = 0
-off_bit (On s) = 0
 off_bit (Off s) = 2 ^ s
-off_bit (Next a) = 0
-off_bit (And a b) = 0
-off_bit (Or a b) = 0
-off_bit (Until a b) = 0
-off_bit (Release a b) = 0
+off_bit node = 0
 
 -- the signals whose literal, on or off, is among the members below n
 abbrev pub signals : (CoreNode → ℕ) → List CoreNode → CoreSet → ℕ → ℕ
@@ -64,15 +50,8 @@ off_signals sheet old = signals off_bit sheet old (length sheet)
 
 -- 1 for an until, 0 for any other node
 abbrev pub is_until : CoreNode → ℕ
-is_until True = 0
-is_until False = 0
-is_until (On s) = 0
-is_until (Off s) = 0
-is_until (Next a) = 0
-is_until (And a b) = 0
-is_until (Or a b) = 0
 is_until (Until a b) = 1
-is_until (Release a b) = 0
+is_until node = 0
 
 -- how many untils there are below number n
 abbrev pub untils_below : List CoreNode → ℕ → ℕ
@@ -81,15 +60,8 @@ untils_below sheet (suc n) = untils_below sheet n + is_until (node_on sheet n)
 
 -- the mark set of each until, by number: borne where the until is not in Old, or its second operand is
 abbrev pub mark_of : CoreNode → ℕ → CoreSet → ℕ → ℕ
-mark_of True k old j = 0
-mark_of False k old j = 0
-mark_of (On s) k old j = 0
-mark_of (Off s) k old j = 0
-mark_of (Next a) k old j = 0
-mark_of (And a b) k old j = 0
-mark_of (Or a b) k old j = 0
 mark_of (Until a b) k old j = cond (has old k) (cond (has old b) (2 ^ j) 0) (2 ^ j)
-mark_of (Release a b) k old j = 0
+mark_of node k old j = 0
 
 -- the marks of a state with this Old, for the untils below number n
 abbrev pub marks_below : List CoreNode → CoreSet → ℕ → ℕ
@@ -116,15 +88,10 @@ pub record Config : Type 0 where
 
 -- false, or a literal whose opposite is in Old
 abbrev pub drops : List CoreNode → CoreSet → CoreNode → Bool
-drops sheet old True = false
 drops sheet old False = true
 drops sheet old (On s) = has (set_of (off_signals sheet old)) s
 drops sheet old (Off s) = has (set_of (on_signals sheet old)) s
-drops sheet old (Next a) = false
-drops sheet old (And a b) = false
-drops sheet old (Or a b) = false
-drops sheet old (Until a b) = false
-drops sheet old (Release a b) = false
+drops sheet old node = false
 
 -- an item with this source, New, Old and Next
 abbrev pub item : ℕ → CoreSet → CoreSet → CoreSet → Item

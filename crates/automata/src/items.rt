@@ -1,7 +1,8 @@
 // What a translation reads and writes: pending items, states and arcs.
 use crate::nodes::CoreSet;
 
-// An item that is still to be worked on, on behalf of its source: 0 for the start, else a state's number.
+/// An item that is still to be worked on, on behalf of its source: 0 for the start, else a state's
+/// number, from 1. How step goes about it is in docs/TRANSLATION.md.
 #[derive(Clone, Copy, PartialEq, Eq, Debug, Default)]
 pub struct Item {
     pub source: u32,
@@ -10,8 +11,8 @@ pub struct Item {
     pub next: CoreSet,
 }
 
-// A state of the automaton; states are numbered from 1. Bit j of `marks` is mark set j, bit s of `on`
-// and `off` is signal s.
+/// A state of the automaton; states are numbered from 1. Bit j of `marks` is mark set j, from 0 to 15;
+/// bit s of `on` and of `off` is signal s, from 0 to 63, whose on or off literal is in `old`.
 #[derive(Clone, Copy, PartialEq, Eq, Debug, Default)]
 pub struct State {
     pub old: CoreSet,
@@ -21,7 +22,8 @@ pub struct State {
     pub off: u64,
 }
 
-// An arc from a state, or from the start at 0, to a state.
+/// An arc from a state, or from the start, which is 0, to a state, by their numbers.
+// Kept: a public promise; the definitions under the law and what is printed have 0 for the start.
 #[derive(Clone, Copy, PartialEq, Eq, Debug, Default)]
 pub struct Arc {
     pub from: u32,

@@ -1,15 +1,15 @@
 // The core form of a rule: nodes of a few kinds, numbered from 0.
 
-ghost use Rattle.std.specs.Prelude.{◌≡◌, Decides};
-ghost use Rattle.automata.specs.Sheets.{same, same_laws};
-
-// Operands are core numbers, which are places on a sheet of core nodes.
-#[derive(Clone, Copy, Debug)]
+/// A node of a core form. Operands are core numbers, the numbers of nodes on the same sheet; signals
+/// are numbered from 0 to 63. A node of a lent sheet may hold any number: one that names no node
+/// there, or no signal, makes the node count as false. The kinds are in docs/TRANSLATION.md.
+#[derive(Clone, Copy, PartialEq, Eq, Debug)]
 pub enum CoreNode {
     True,
     False,
-    // the two literals of a signal
+    /// The literal of a signal that is on.
     On(u8),
+    /// The literal of a signal that is off.
     Off(u8),
     Next(u8),
     And(u8, u8),
@@ -18,32 +18,7 @@ pub enum CoreNode {
     Release(u8, u8),
 }
 
-impl PartialEq for CoreNode {
-    ghost eq = { same };
-
-    ghost laws = { same_laws };
-
-    #[tactic(auto, unfolding(crate::specs::Sheets::same))]
-    fn eq(&self, other: &CoreNode) -> bool
-        ensures computed { result ≡ same self.now other.now }
-        ensures equal { Decides result (self.now ≡ other.now) }
-    {
-        match (*self, *other) {
-            (CoreNode::True, CoreNode::True) => true,
-            (CoreNode::False, CoreNode::False) => true,
-            (CoreNode::On(s), CoreNode::On(t)) => s == t,
-            (CoreNode::Off(s), CoreNode::Off(t)) => s == t,
-            (CoreNode::Next(a), CoreNode::Next(c)) => a == c,
-            (CoreNode::And(a, b), CoreNode::And(c, d)) => a == c && b == d,
-            (CoreNode::Or(a, b), CoreNode::Or(c, d)) => a == c && b == d,
-            (CoreNode::Until(a, b), CoreNode::Until(c, d)) => a == c && b == d,
-            (CoreNode::Release(a, b), CoreNode::Release(c, d)) => a == c && b == d,
-            _ => false,
-        }
-    }
-}
-
-// A set of core numbers: number k is in it when bit k is on.
+/// A set of core numbers from 0 to 63: number k is a member when bit k is on.
 #[derive(Clone, Copy, PartialEq, Eq, Debug, Default)]
 pub struct CoreSet {
     pub bits: u64,

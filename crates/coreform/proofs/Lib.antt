@@ -1,5 +1,4 @@
-pub mod Cooking
 pub mod Drafting
+pub mod Following
 pub mod Memory
-pub mod Numbering
 pub mod Right

@@ -1,6 +1,8 @@
 -- A recipe writes the core form of its node.
-use Rattle.std.proofs.Common.{◌≡◌, ℕ, zero, suc, ◌-◌, ◌<◌, Bool, true, false, ltb, List, [], ◌∷◌, length, get_or, refl, subst, arith}
+use Rattle.std.proofs.Common.{◌≡◌, ℕ, ◌-◌, ◌<◌, Bool, true, false, ltb, List, [], length, get_or, refl, subst}
 use Rattle.std.proofs.lemmas.Bool.{ltb-true, and_parts}
+use Rattle.std.specs.List.{AllByRecursion}
+use Rattle.std.proofs.lemmas.List.Elements.{All-from_recursion}
 use Rattle.automata.specs.Cores.{core_of}
 use Rattle.automata.specs.Sheets.{Written, write}
 use Rattle.automata.specs.declared.nodes.CoreNode.{CoreNode}
@@ -71,13 +73,10 @@ module _ (rule : ℕ → Rule) (sheet : List CoreNode) where
 -- ---- the places that a recipe writes are the operands of its node
 abbrev pub LowerStep : ℕ → Step → Type 0
 LowerStep n (step.Write a p) = a.index < n
-LowerStep n (step.Leaf x) = Unit {0}
-LowerStep n (step.Next i) = Unit {0}
-LowerStep n (step.Join j i k) = Unit {0}
+LowerStep n s = Unit {0}
 
 abbrev AllLower : ℕ → List Step → Type 0
-AllLower n [] = Unit {0}
-AllLower n (s ∷ ss) = LowerStep n s × AllLower n ss
+AllLower n = AllByRecursion (LowerStep n)
 
 module _ (n : ℕ) where
   unary_lower : (op : UnaryOp) (p : Bool) (a : Place) → a.index < n → AllLower n (unary_recipe op p a)
@@ -109,21 +108,16 @@ module _ (n : ℕ) where
   binary_lower StrongRelease true a b h l = (l, (h, (l, (tt, (tt, tt)))))
   binary_lower StrongRelease false a b h l = (l, (h, (l, (tt, (tt, tt)))))
 
-  recipe_lower : (node : Node) (p : Bool) → fits_at node n ≡ true → AllLower n (recipe_of node p)
-  recipe_lower True true f = (tt, tt)
-  recipe_lower True false f = (tt, tt)
-  recipe_lower False true f = (tt, tt)
-  recipe_lower False false f = (tt, tt)
-  recipe_lower (Signal s) true f = (tt, tt)
-  recipe_lower (Signal s) false f = (tt, tt)
-  recipe_lower (Unary op a) p f = unary_lower op p a (ltb-true _ _ f)
-  recipe_lower (Binary op a b) p f = let q = and_parts (ltb a.index n) (ltb b.index n) f in binary_lower op p a b (ltb-true _ _ q.0) (ltb-true _ _ q.1)
-
-  each_lower : (ss : List Step) → AllLower n ss → (k : ℕ) (d : Step) → k < length ss → LowerStep n (get_or ss k d)
-  each_lower [] h k d l = absurd (omega arith)
-  each_lower (s ∷ ss) h zero d l = h.0
-  each_lower (s ∷ ss) h (suc k) d l = each_lower ss h.1 k d (omega arith)
+  node_lower : (node : Node) (p : Bool) → fits_at node n ≡ true → AllLower n (recipe_of node p)
+  node_lower True true f = (tt, tt)
+  node_lower True false f = (tt, tt)
+  node_lower False true f = (tt, tt)
+  node_lower False false f = (tt, tt)
+  node_lower (Signal s) true f = (tt, tt)
+  node_lower (Signal s) false f = (tt, tt)
+  node_lower (Unary op a) p f = unary_lower op p a (ltb-true _ _ f)
+  node_lower (Binary op a b) p f = let q = and_parts (ltb a.index n) (ltb b.index n) f in binary_lower op p a b (ltb-true _ _ q.0) (ltb-true _ _ q.1)
 
   -- a step of the recipe that writes a place writes a lower one
   pub writes_lower : (node : Node) (p : Bool) → fits_at node n ≡ true → (k : ℕ) (d : Step) (a : Place) (q : Bool) → k < length (recipe_of node p) → get_or (recipe_of node p) k d ≡ step.Write a q → a.index < n
-  writes_lower node p f k d a q l e = subst (LowerStep n) e (each_lower (recipe_of node p) (recipe_lower node p f) k d l)
+  writes_lower node p f k d a q l e = subst (LowerStep n) e (All-from_recursion (LowerStep n) (recipe_of node p) (node_lower node p f) k d l)

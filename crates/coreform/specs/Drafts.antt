@@ -1,18 +1,9 @@
--- What a draft stands for.
-use Rattle.std.specs.Prelude.{◌≡◌, ℕ, ◌<◌, false, List, length, take, MatchBool}
+-- What is answered where something is written on a draft.
+use Rattle.std.specs.Prelude.{◌≡◌, ℕ, ◌<◌, List, length, Option, MatchOption}
 use Rattle.automata.specs.Sheets.{Written}
 use Rattle.automata.specs.declared.nodes.CoreNode.{CoreNode}
-use Rattle.coreform.specs.declared.draft.Draft.{Draft}
+use Rattle.coreform.specs.declared.draft.TheConstants.{MOST_NODES}
 
--- the nodes that are written
-abbrev pub sheet_of : Draft → List CoreNode
-sheet_of d = take d.count d.nodes
-
--- the draft has this sheet, or the sheet has over 64 nodes and the draft is full
-abbrev pub Is : Draft → List CoreNode → Type 0
-Is d sheet = MatchBool d.full (64 < length sheet) (sheet_of d ≡ sheet)
-
--- what was written is on the draft, under the number that was answered, unless it is too large
-pub record Drafted (d : Draft) (number : ℕ) (w : Written) : Type 0 where
-  pub is : Is d w.sheet
-  pub numbered : d.full ≡ false → number ≡ w.root
+-- what was written is on the draft, under the number that was answered; or it has over 64 nodes, and none was answered
+abbrev pub Drafted : List CoreNode → Option ℕ → Written → Type 0
+Drafted draft answer w = MatchOption answer (MOST_NODES < length w.sheet) (λ k. w ≡ record { sheet = draft; root = k })

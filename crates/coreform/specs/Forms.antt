@@ -1,7 +1,8 @@
 -- The core form of the rule at a place, or why there is none.
-use Rattle.std.specs.Prelude.{ℕ, cond, List, length, take, Ok, Err, Result, nat_le, nat_lt}
+use Rattle.std.specs.Prelude.{ℕ, cond, List, length, Ok, Err, Result, nat_le, nat_lt}
 use Rattle.automata.specs.Sheets.{Written, core_form}
 use Rattle.automata.specs.declared.nodes.CoreNode.{CoreNode}
+use Rattle.coreform.specs.declared.draft.TheConstants.{MOST_NODES}
 use Rattle.coreform.specs.declared.form.CoreForm.{CoreForm}
 use Rattle.coreform.specs.declared.form.FormFault.{FormFault}
 use Rattle.coreform.specs.declared.form.FormFault.TheVariants.{NotInBook, TooManyNodes}
@@ -14,9 +15,9 @@ abbrev pub form_number : FormFault → ℕ
 form_number (NotInBook place) = 9
 form_number TooManyNodes = 7
 
--- the nodes in use, which are the sheet
+-- the nodes, which are the sheet
 abbrev pub nodes_of : CoreForm → List CoreNode
-nodes_of f = take f.count f.nodes
+nodes_of f = f.nodes
 
 -- the sheet and the number that an answer says
 abbrev pub shown : Result CoreForm FormFault → Result Written FormFault
@@ -31,5 +32,5 @@ form_at book place = core_form (rule_at book place.index)
 abbrev pub formed : List Node → Place → Result Written FormFault
 formed book place =
     cond (nat_lt place.index (length book))
-    (cond (nat_le (length (form_at book place).sheet) 64) (Ok (form_at book place)) (Err TooManyNodes))
+    (cond (nat_le (length (form_at book place).sheet) MOST_NODES) (Ok (form_at book place)) (Err TooManyNodes))
     (Err (NotInBook place))

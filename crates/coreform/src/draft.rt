@@ -1,18 +1,77 @@
 // A sheet of our own, on which a core form is written before the caller's sheet is looked at.
-ghost use Rattle.std.specs.Prelude.{◌≡◌, ◌≤◌, length};
+ghost use Rattle.std.specs.Prelude.{◌≡◌, ◌≤◌, List, [], length, take};
+ghost use Rattle.std.specs.List.{position};
+ghost use Rattle.automata.specs.Sheets.{same, put};
+ghost use Rattle.automata.specs.declared.nodes.CoreNode.{CoreNode as AnyNode};
+ghost use Rattle.coreform.specs.Drafts.{Drafted};
+ghost use Rattle.coreform.specs.declared.draft.TheConstants.{MOST_NODES};
 
 use automata::nodes::CoreNode;
+use std::marker::Model;
 
-// How many nodes a core form may have.
+/// The most nodes that a core form may have.
 pub const MOST_NODES: usize = 64;
 
-// The nodes below `count` are written. Where one found no room, `full` is set: the core form is too
-// large, and what is written from then on is lost.
+/// The nodes of a core form, in the order of their numbers: at most 64.
 #[derive(Drop)]
 pub struct Draft {
-    pub(crate) nodes: [CoreNode; MOST_NODES],
-    pub(crate) count: usize,
-    pub(crate) full: bool,
-    ghost room: { length nodes ≡ 64 },
-    ghost fits: { count ≤ 64 },
+    nodes: [CoreNode; MOST_NODES],
+    count: usize,
+}
+
+impl Model for Draft {
+    ghost Value = { List AnyNode };
+
+    ghost view = { λ d. take d.count d.nodes };
+
+    ghost invariant = { λ d. d.count ≤ MOST_NODES };
+}
+
+// Where a node stands.
+fn number_on(nodes: &[CoreNode], node: CoreNode) -> Option<usize>
+    ensures { result ≡ position (λ x. same x node) nodes.now }
+{
+    nodes.iter().position(|written| *written == node)
+}
+
+impl Draft {
+    // A draft on which nothing is written.
+    pub(crate) fn new() -> Draft
+        ensures { result ≡ [] }
+    {
+        Draft {
+            nodes: [CoreNode::False; MOST_NODES],
+            count: 0,
+        }
+    }
+
+    // The nodes that are written, in the order of their numbers.
+    pub(crate) fn nodes(&self) -> &[CoreNode]
+        ensures { result.now ≡ self.now }
+    {
+        &self.nodes[..self.count]
+    }
+
+    // For a proof: at most 64 nodes are written.
+    pub(crate) fn few(&self)
+        ensures { length self.now ≤ MOST_NODES }
+    {
+        let _ = &self.count;
+    }
+
+    // Writes a node unless it is there, and answers its number: none where 64 others are written.
+    pub(crate) fn put(&mut self, node: CoreNode) -> Option<u8>
+        ensures { Drafted self.new result (put node self.old) }
+    {
+        if let Some(number) = number_on(self.nodes(), node) {
+            return Some(number as u8);
+        }
+        if self.count == MOST_NODES {
+            return None;
+        }
+        let number = self.count;
+        self.nodes[number] = node;
+        self.count += 1;
+        Some(number as u8)
+    }
 }

@@ -5,7 +5,5 @@ pub mod cookbook;
 pub mod draft;
 pub mod form;
 pub mod numbers;
-pub mod putting;
 pub mod recipe;
-pub mod remembering;
 pub mod writing;

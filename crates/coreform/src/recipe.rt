@@ -1,36 +1,59 @@
 // How the core form of a node is written, from the numbers of its operands.
-ghost use Rattle.std.specs.Prelude.{◌≡◌, ◌<◌, ◌≤◌, length};
+ghost use Rattle.std.specs.Prelude.{◌≡◌, ◌<◌, ◌≤◌, List, length, take};
+ghost use Rattle.coreform.specs.declared.recipe.TheConstants.{MOST_STEPS};
+ghost use Rattle.coreform.specs.declared.recipe.Step.{Step as AnyStep};
 
 use automata::nodes::CoreNode;
 use rules::node::Place;
-
-// A core node of two operands.
-#[derive(Clone, Copy)]
-pub enum Joint {
-    And,
-    Or,
-    Until,
-    Release,
-}
+use std::marker::Model;
 
 // One step; the numbers that the steps before it answered are counted from 0.
+// Kept: closures as steps are refused by a rule of the project, as functions that hand them out.
 #[derive(Clone, Copy)]
 pub enum Step {
     // write the rule at a place (true), or its denial (false)
+    // Kept: an enum of polarities is no plainer, for `core_of` and its laws take a Bool.
     Write(Place, bool),
-    // put a node without operands
-    Leaf(CoreNode),
-    // put a node over the numbers of earlier steps
-    Next(u8),
-    Join(Joint, u8, u8),
+    // put a node, whose operands are given by the steps that answered their numbers
+    Put(CoreNode),
 }
 
+// How many steps a recipe may have.
+pub const MOST_STEPS: usize = 7;
+
 // The steps for one node: the last one answers its number.
-#[derive(Clone, Copy)]
+#[derive(Drop)]
 pub struct Recipe {
-    pub steps: [Step; 7],
-    pub count: usize,
-    ghost long: { length steps ≡ 7 },
-    ghost few: { count ≤ 7 },
-    ghost some: { 0 < count },
+    steps: [Step; MOST_STEPS],
+    count: usize,
+}
+
+impl Model for Recipe {
+    ghost Value = { List AnyStep };
+
+    ghost view = { λ r. take r.count r.steps };
+
+    ghost invariant = { λ r. (0 < r.count) × (r.count ≤ MOST_STEPS) };
+}
+
+impl Recipe {
+    // A recipe of these steps.
+    pub(crate) fn new(given: &[Step]) -> Recipe
+        requires { (0 < length given.now) × (length given.now ≤ MOST_STEPS) }
+        ensures { result ≡ given.now }
+    {
+        let mut steps = [Step::Put(CoreNode::False); MOST_STEPS];
+        let count = given.len();
+        steps[..count].copy_from_slice(given);
+        Recipe { steps, count }
+    }
+
+    // The steps, of which there are one to seven.
+    pub(crate) fn steps(&self) -> &[Step]
+        ensures steps { result.now ≡ self.now }
+        ensures some { 0 < length result.now }
+        ensures few { length result.now ≤ MOST_STEPS }
+    {
+        &self.steps[..self.count]
+    }
 }

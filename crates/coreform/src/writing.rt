@@ -1,79 +1,79 @@
 // Writing the core form of the rule at a place, each place and polarity once.
-ghost use Rattle.std.specs.Prelude.{◌≡◌, ℕ, ◌<◌, ◌≤◌, length, slice_index};
+ghost use Rattle.std.specs.Prelude.{◌≡◌, ◌<◌, [], length, slice_index, IfSome};
 ghost use Rattle.automata.specs.Cores.{core_of};
-ghost use Rattle.coreform.specs.Recipes.{joined, node_over};
+ghost use Rattle.coreform.specs.Recipes.{node_over};
 ghost use Rattle.coreform.specs.Writing.{Known, Writes};
 ghost use Rattle.semantics.specs.Rules.{rule_at};
 
 use crate::cookbook::recipe_of;
 use crate::draft::Draft;
 use crate::numbers::Numbers;
-use crate::recipe::{Joint, Step};
+use crate::recipe::{MOST_STEPS, Step};
 use automata::nodes::CoreNode;
 use rules::book::Book;
 use rules::node::Place;
 
-fn joined(joint: Joint, a: u8, b: u8) -> CoreNode
-    ensures { result ≡ joined joint a b }
+// A node over the numbers that earlier steps answered, instead of the steps.
+fn node_over(node: CoreNode, made: &[u8]) -> CoreNode
+    ensures { result ≡ node_over node made.now }
 {
-    match joint {
-        Joint::And => CoreNode::And(a, b),
-        Joint::Or => CoreNode::Or(a, b),
-        Joint::Until => CoreNode::Until(a, b),
-        Joint::Release => CoreNode::Release(a, b),
+    let number = |step: u8| made.get(step as usize).copied().unwrap_or(0);
+    match node {
+        CoreNode::True | CoreNode::False | CoreNode::On(_) | CoreNode::Off(_) => node,
+        CoreNode::Next(i) => CoreNode::Next(number(i)),
+        CoreNode::And(i, j) => CoreNode::And(number(i), number(j)),
+        CoreNode::Or(i, j) => CoreNode::Or(number(i), number(j)),
+        CoreNode::Until(i, j) => CoreNode::Until(number(i), number(j)),
+        CoreNode::Release(i, j) => CoreNode::Release(number(i), number(j)),
     }
 }
 
-// The number of an earlier step.
-fn number_at(made: &[u8], step: u8) -> u8
-    ensures { result ≡ slice_index made.now step }
-{
-    if (step as usize) < made.len() {
-        made[step as usize]
-    } else {
-        0
-    }
+// A draft on which the rules of a book are written, and the numbers that they have there.
+#[derive(Drop)]
+pub(crate) struct Writer<'a> {
+    pub(crate) draft: Draft,
+    numbers: Numbers,
+    book: &'a Book,
 }
 
-// The node that a step puts over the numbers of the steps before it.
-fn node_over(step: Step, made: &[u8]) -> CoreNode
-    ensures { result ≡ node_over step made.now }
-{
-    match step {
-        Step::Write(_, _) => CoreNode::False,
-        Step::Leaf(leaf) => leaf,
-        Step::Next(i) => CoreNode::Next(number_at(made, i)),
-        Step::Join(joint, i, j) => joined(joint, number_at(made, i), number_at(made, j)),
+impl<'a> Writer<'a> {
+    // Nothing is written.
+    pub(crate) fn new(book: &'a Book) -> Writer<'a>
+        ensures draft { result.draft ≡ [] }
+        ensures book { result.book.now ≡ book.now }
+        ensures known { Known book.now result.draft result.numbers }
+    {
+        Writer {
+            draft: Draft::new(),
+            numbers: Numbers::new(),
+            book,
+        }
     }
-}
 
-// Writes the core form of the rule at a place (true), or of its denial (false), and answers its number.
-pub(crate) fn write(
-    draft: &mut Draft,
-    numbers: &mut Numbers,
-    book: &Book,
-    place: Place,
-    polarity: bool,
-) -> u8
-    requires entered { place.index < length book.now }
-    requires known { Known book.now draft.old numbers.old }
-    ensures writes { Writes (core_of (rule_at book.now place.index) polarity) draft.old result draft.new }
-    ensures known { Known book.now draft.new numbers.new }
-{
-    let nodes = book.nodes();
-    if let Some(number) = numbers.get(polarity, place) {
-        return number;
+    // Writes the core form of the rule at a place (true), or of its denial (false), and answers its
+    // number: none where there are over 64 nodes.
+    pub(crate) fn write(&mut self, place: Place, polarity: bool) -> Option<u8>
+        requires entered { place.index < length self.old.book.now }
+        requires known { Known self.old.book.now self.old.draft self.old.numbers }
+        ensures writes { Writes (core_of (rule_at self.old.book.now place.index) polarity) self.old.draft result self.new.draft }
+        ensures known { IfSome result (λ _. Known self.old.book.now self.new.draft self.new.numbers) }
+        ensures book { self.new.book.now ≡ self.old.book.now }
+    {
+        if let Some(number) = self.numbers.get(polarity, place) {
+            return Some(number);
+        }
+        let recipe = recipe_of(self.book.nodes()[place.index as usize], polarity);
+        let steps = recipe.steps();
+        // Kept: no heap; a crate for a list in an array is no plainer for this one local.
+        let mut made = [0u8; MOST_STEPS];
+        for (at, step) in steps.iter().enumerate() {
+            made[at] = match *step {
+                Step::Write(a, p) => self.write(a, p)?,
+                Step::Put(node) => self.draft.put(node_over(node, &made[..at]))?,
+            };
+        }
+        let number = made[steps.len() - 1];
+        self.numbers.set(polarity, place, number);
+        Some(number)
     }
-    let recipe = recipe_of(nodes[place.index as usize], polarity);
-    let mut made = [0u8; 7];
-    for at in 0..recipe.count {
-        let step = recipe.steps[at];
-        made[at] = match step {
-            Step::Write(a, p) => write(draft, numbers, book, a, p),
-            _ => draft.put(node_over(step, &made)),
-        };
-    }
-    let number = made[recipe.count - 1];
-    numbers.set(polarity, place, number);
-    number
 }

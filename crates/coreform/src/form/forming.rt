@@ -2,16 +2,14 @@
 ghost use Rattle.std.specs.Prelude.{◌≡◌};
 ghost use Rattle.coreform.specs.Forms.{nodes_of, shown, formed, form_number};
 
-use crate::draft::Draft;
 use crate::form::{CoreForm, FormFault};
-use crate::numbers::Numbers;
-use crate::writing::write;
+use crate::writing::Writer;
 use automata::nodes::CoreNode;
 use rules::book::Book;
 use rules::node::Place;
 
 impl FormFault {
-    // The number of the refusal.
+    /// The number of the refusal: 9 or 7. docs/REFUSALS.md has them all.
     pub fn number(&self) -> u8
         ensures { result ≡ form_number self.now }
     {
@@ -23,14 +21,14 @@ impl FormFault {
 }
 
 impl CoreForm {
-    // The nodes, in the order of their numbers.
+    /// The nodes in the order of their numbers, which count from 0: at most 64.
     pub fn nodes(&self) -> &[CoreNode]
         ensures { result.now ≡ nodes_of self.now }
     {
-        &self.nodes[0..self.count]
+        self.nodes.nodes()
     }
 
-    // The number of the whole.
+    /// The number of the whole: one of the nodes.
     pub fn root(&self) -> u8
         ensures { result ≡ self.now.root }
     {
@@ -38,19 +36,19 @@ impl CoreForm {
     }
 }
 
-// The core form of the rule at a place.
+/// The core form of the rule at a place of a book, as docs/TRANSLATION.md has it. Refused are a place
+/// that is not in the book (9), and a core form of over 64 nodes (7).
 pub fn core_form(book: &Book, place: Place) -> Result<CoreForm, FormFault>
     ensures { shown result ≡ formed book.now place }
 {
     if place.index as usize >= book.len() {
         return Err(FormFault::NotInBook(place));
     }
-    let mut draft = Draft::new();
-    let mut numbers = Numbers::new();
-    let root = write(&mut draft, &mut numbers, book, place, true);
-    let Draft { nodes, count, full } = draft;
-    if full {
-        return Err(FormFault::TooManyNodes);
-    }
-    Ok(CoreForm { nodes, count, root })
+    let mut writer = Writer::new(book);
+    let root = writer.write(place, true).ok_or(FormFault::TooManyNodes)?;
+    writer.draft.few();
+    Ok(CoreForm {
+        nodes: writer.draft,
+        root,
+    })
 }

@@ -1,0 +1,16 @@
+use Rattle.std.proofs.Common.{◌≡◌, length}
+use Rattle.semantics.specs.Rules.{rule_at}
+use Rattle.coreform.proofs.Following.{Reached}
+use Rattle.coreform.specs.Writing.{Known}
+use Rattle.coreform.proofs.writing.Writer.+write.Given as goal
+
+abbrev pub decreases-write : goal.decreases-write
+decreases-write l = l.place.index
+
+abbrev pub invariant-loop-at : goal.invariant-loop-at
+invariant-loop-at l = record {
+  reached : Reached (rule_at l.fn.self.book.now) l.steps l.fn.self.draft l.at l.made l.self.draft;
+  known : Known l.fn.self.book.now l.self.draft l.self.numbers;
+  book : l.self.book.now ≡ l.fn.self.book.now;
+  long : length l.made ≡ 7;
+}
