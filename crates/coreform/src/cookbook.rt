@@ -6,24 +6,35 @@ use crate::recipe::{Recipe, Step};
 use automata::nodes::CoreNode;
 use rules::node::{BinaryOp, Node, Place, UnaryOp};
 
+// One step alone.
 fn one(step: Step) -> Recipe
     ensures { result ≡ step ∷ [] }
 {
     Recipe::new(&[step])
 }
 
+// A node over the rules at two places, each of them or its denial.
 fn pair(node: CoreNode, a: Place, p: bool, b: Place, q: bool) -> Recipe
     ensures { result ≡ pair node a p b q }
 {
     Recipe::new(&[Step::Write(a, p), Step::Write(b, q), Step::Put(node)])
 }
 
+// The same with the rules at both places, or the denials of both.
+fn both(node: CoreNode, a: Place, b: Place, p: bool) -> Recipe
+    ensures { result ≡ pair node a p b p }
+{
+    pair(node, a, p, b, p)
+}
+
+// A node over a leaf and the rule at a place.
 fn fixed(leaf: CoreNode, node: CoreNode, a: Place, p: bool) -> Recipe
     ensures { result ≡ fixed leaf node a p }
 {
     Recipe::new(&[Step::Put(leaf), Step::Write(a, p), Step::Put(node)])
 }
 
+// A node over the rule at b and an inner node, which is over the rules at a and b.
 fn guard(outer: CoreNode, inner: CoreNode, a: Place, b: Place, p: bool) -> Recipe
     ensures { result ≡ guard outer inner a b p }
 {
@@ -36,6 +47,7 @@ fn guard(outer: CoreNode, inner: CoreNode, a: Place, b: Place, p: bool) -> Recip
     ])
 }
 
+// The rules at both places, or the denials of both; with q false, one of them and the denial of the other.
 fn twins(a: Place, b: Place, q: bool) -> Recipe
     ensures { result ≡ twins a b q }
 {
@@ -50,6 +62,7 @@ fn twins(a: Place, b: Place, q: bool) -> Recipe
     ])
 }
 
+// For a node of one operand.
 fn unary_recipe(op: UnaryOp, p: bool, a: Place) -> Recipe
     ensures { result ≡ unary_recipe op p a }
 {
@@ -71,27 +84,26 @@ fn unary_recipe(op: UnaryOp, p: bool, a: Place) -> Recipe
     }
 }
 
+// For a node of two operands.
 fn binary_recipe(op: BinaryOp, p: bool, a: Place, b: Place) -> Recipe
     ensures { result ≡ binary_recipe op p a b }
 {
     match (op, p) {
-        (BinaryOp::And, true) | (BinaryOp::Or, false) => pair(CoreNode::And(0, 1), a, p, b, p),
-        (BinaryOp::And, false) | (BinaryOp::Or, true) => pair(CoreNode::Or(0, 1), a, p, b, p),
+        (BinaryOp::And, true) | (BinaryOp::Or, false) => both(CoreNode::And(0, 1), a, b, p),
+        (BinaryOp::And, false) | (BinaryOp::Or, true) => both(CoreNode::Or(0, 1), a, b, p),
         (BinaryOp::Implies, true) => pair(CoreNode::Or(0, 1), a, false, b, true),
         (BinaryOp::Implies, false) => pair(CoreNode::And(0, 1), a, true, b, false),
         (BinaryOp::Equivalent, _) => twins(a, b, p),
         (BinaryOp::ExclusiveOr, _) => twins(a, b, !p),
-        (BinaryOp::Until, true) | (BinaryOp::Release, false) => pair(
+        (BinaryOp::Until, true) | (BinaryOp::Release, false) => both(
             CoreNode::Until(0, 1),
             a,
-            p,
             b,
             p,
         ),
-        (BinaryOp::Until, false) | (BinaryOp::Release, true) => pair(
+        (BinaryOp::Until, false) | (BinaryOp::Release, true) => both(
             CoreNode::Release(0, 1),
             a,
-            p,
             b,
             p,
         ),
