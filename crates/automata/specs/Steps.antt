@@ -8,19 +8,27 @@ use Rattle.automata.specs.declared.nodes.CoreNode.{CoreNode}
 use Rattle.automata.specs.declared.nodes.CoreNode.TheVariants.{True, False, On, Off, Next, And, Or, Until, Release}
 use Rattle.automata.specs.declared.nodes.CoreSet.{CoreSet}
 
--- ---- reading the sheet of n nodes: a number that is not on it, or a node that names one or a signal above 63, counts as false
-abbrev pub checked : ℕ → CoreNode → CoreNode
-checked n True = True
-checked n False = False
-checked n (On s) = cond (nat_lt s 64) (On s) False
-checked n (Off s) = cond (nat_lt s 64) (Off s) False
-checked n (Next a) = cond (nat_lt a n) (Next a) False
-checked n (And a b) = cond (nat_lt a n && nat_lt b n) (And a b) False
-checked n (Or a b) = cond (nat_lt a n && nat_lt b n) (Or a b) False
-checked n (Until a b) = cond (nat_lt a n && nat_lt b n) (Until a b) False
-checked n (Release a b) = cond (nat_lt a n && nat_lt b n) (Release a b) False
+-- ---- reading the sheet of n nodes
+-- both numbers are below n
+abbrev pub both_below : ℕ → ℕ → ℕ → Bool
+both_below n a b = nat_lt a n && nat_lt b n
 
--- what stands on the sheet under number k, as it counts
+-- whether each number that a node names is below n, and each signal below 64
+abbrev pub sound_on : ℕ → CoreNode → Bool
+sound_on n (On s) = nat_lt s 64
+sound_on n (Off s) = nat_lt s 64
+sound_on n (Next a) = nat_lt a n
+sound_on n (And a b) = both_below n a b
+sound_on n (Or a b) = both_below n a b
+sound_on n (Until a b) = both_below n a b
+sound_on n (Release a b) = both_below n a b
+sound_on n node = true
+
+-- a node that names a number that is not on the sheet, or a signal above 63, counts as false
+abbrev pub checked : ℕ → CoreNode → CoreNode
+checked n node = cond (sound_on n node) node False
+
+-- what stands on the sheet under number k, as it counts; false where nothing does
 abbrev pub node_on : List CoreNode → ℕ → CoreNode
 node_on sheet k = checked (length sheet) (slice_index_or sheet k False)
 
@@ -119,15 +127,23 @@ taken sheet k i =
     cond (drops sheet i.old (node_on sheet k)) []
     (split (node_on sheet k) k i.source (remove i.new k) (insert i.old k) i.next)
 
+-- the state has this Old and Next
+abbrev pub is_state : State → CoreSet → CoreSet → Bool
+is_state s old next = s.old.bits == old.bits && s.next.bits == next.bits
+
 -- how many states come before the first with this Old and Next
 abbrev pub states_before : CoreSet → CoreSet → List State → ℕ
 states_before old next [] = 0
-states_before old next (s ∷ ss) = cond (s.old.bits == old.bits && s.next.bits == next.bits) 0 (suc (states_before old next ss))
+states_before old next (s ∷ ss) = cond (is_state s old next) 0 (suc (states_before old next ss))
+
+-- the arcs have the same two ends
+abbrev pub same_arc : Arc → Arc → Bool
+same_arc a b = a.from == b.from && a.to == b.to
 
 -- an arc with the same two ends is in the list
 abbrev pub arc_among : Arc → List Arc → Bool
 arc_among a [] = false
-arc_among a (b ∷ bs) = cond (b.from == a.from && b.to == a.to) true (arc_among a bs)
+arc_among a (b ∷ bs) = cond (same_arc b a) true (arc_among a bs)
 
 -- an arc between two states, by their numbers; 0 is the start
 abbrev pub arc : ℕ → ℕ → Arc

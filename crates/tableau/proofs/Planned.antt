@@ -2,13 +2,12 @@
 use Rattle.std.proofs.Common.{◌≡◌, suc, ◌+◌, true, false, Bool, cond, ◌&&◌, ◌||◌, eqb, ltb, leb, List, [], ◌∷◌, ◌++◌, length, Some, None, sym, refl, ap, ◌∙◌, append-nil, arith}
 use Rattle.std.specs.List.{list_any, position_or_len}
 use Rattle.std.proofs.lemmas.List.Recursion.{is_position_or_len}
-use Rattle.automata.specs.Steps.{Config, arc, arc_among, states_before, settle, step_on}
+use Rattle.automata.specs.Steps.{Config, arc, arc_among, states_before, settle, step_on, is_state, same_arc}
 use Rattle.automata.specs.declared.items.Arc.{Arc}
 use Rattle.automata.specs.declared.items.Item.{Item}
 use Rattle.automata.specs.declared.items.State.{State}
 use Rattle.automata.specs.declared.nodes.CoreNode.{CoreNode}
 use Rattle.automata.specs.declared.nodes.CoreSet.{CoreSet}
-use Rattle.tableau.specs.Nodes.{is_state, same_arc}
 use Rattle.tableau.specs.Plans.{settle_plan_at, settle_plan, applied, DoesStep}
 use Rattle.tableau.specs.declared.plans.Plan.{Plan}
 use Rattle.tableau.specs.declared.plans.Plan.TheVariants.{Nothing, Join}

@@ -1,7 +1,6 @@
 pub mod Beginning
 pub mod Ends
 pub mod Limits
-pub mod Nodes
 pub mod Plans
 pub mod Refusals
 pub mod Rooms

@@ -2,12 +2,11 @@
 use Rattle.std.specs.Prelude.{◌≡◌, ℕ, ◌+◌, ◌-◌, cond, ◌&&◌, List, [], ◌∷◌, ◌++◌, length, ◌==◌, nat_le, Some, None, Option, slice_set}
 use Rattle.std.specs.List.{list_any, position}
 use Rattle.automata.specs.Sets.{empty}
-use Rattle.automata.specs.Steps.{Config, item, arc, state_of, step_on}
+use Rattle.automata.specs.Steps.{Config, item, arc, state_of, step_on, is_state, same_arc}
 use Rattle.automata.specs.declared.items.Arc.{Arc}
 use Rattle.automata.specs.declared.items.Item.{Item}
 use Rattle.automata.specs.declared.items.State.{State}
 use Rattle.automata.specs.declared.nodes.CoreNode.{CoreNode}
-use Rattle.tableau.specs.Nodes.{is_state, same_arc}
 use Rattle.tableau.specs.declared.plans.Plan.{Plan}
 use Rattle.tableau.specs.declared.plans.Plan.TheVariants.{Nothing, One, Two, Join, Make}
 

@@ -2,9 +2,8 @@
 ghost use Rattle.std.specs.Prelude.{◌≡◌, ◌<◌, ◌≤◌, length};
 ghost use Rattle.std.specs.List.{position};
 ghost use Rattle.automata.specs.Sets.{lowest as lowest_of};
-ghost use Rattle.automata.specs.Steps.{drops as is_dropped, item as item_of, split, taken};
+ghost use Rattle.automata.specs.Steps.{drops as is_dropped, item as item_of, split, taken, is_state};
 ghost use Rattle.tableau.specs.declared.limits.TheConstants.{MOST_STATES};
-ghost use Rattle.tableau.specs.Nodes.{is_state};
 ghost use Rattle.tableau.specs.Plans.{Puts, DoesStep, join_plan, settle_plan};
 
 use crate::sets::{contains, insert, join, lowest, remove};

@@ -1,7 +1,7 @@
 // Reading a sheet of at most 64 core nodes.
 ghost use Rattle.std.specs.Prelude.{◌≡◌, ◌≤◌, true, length};
-ghost use Rattle.automata.specs.Steps.{node_on};
-ghost use Rattle.tableau.specs.Nodes.{both_below, sound_on};
+ghost use Rattle.automata.specs.Steps.{node_on, both_below, sound_on};
+ghost use Rattle.automata.specs.Steps.{both_below, sound_on};
 ghost use Rattle.tableau.specs.declared.limits.TheConstants.{MOST_CORES};
 
 use automata::nodes::CoreNode;
