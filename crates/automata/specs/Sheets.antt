@@ -1,6 +1,6 @@
 -- The core form written on a sheet: nodes are numbered as they are made, left to right, inner before outer,
 -- an equal node being used again.
-use Rattle.std.specs.Prelude.{ℕ, suc, Bool, true, cond, ◌&&◌, List, [], ◌∷◌, ◌++◌, length, ◌==◌, nat_lt}
+use Rattle.std.specs.Prelude.{◌≡◌, ℕ, suc, Bool, Decides, true, cond, ◌&&◌, List, [], ◌∷◌, ◌++◌, length, ◌==◌, nat_lt}
 use Rattle.automata.specs.Cores.{Core, ctrue, cfalse, con, coff, cnext, cand, cor, cuntil, crelease, core_of}
 use Rattle.automata.specs.declared.nodes.CoreNode.{CoreNode}
 use Rattle.automata.specs.declared.nodes.CoreNode.TheVariants.{True, False, On, Off, Next, And, Or, Until, Release}
@@ -21,6 +21,10 @@ parts (Release a b) = (8, a, b)
 -- whether two nodes are equal
 unfoldable pub same : CoreNode → CoreNode → Bool
 same x y = (parts x).0 == (parts y).0 && ((parts x).1 == (parts y).1 && (parts x).2 == (parts y).2)
+
+-- it is true of equal nodes and of no others, and so reflexive, symmetric and transitive
+abbrev pub SameDecides : Type 0
+SameDecides = (x y : CoreNode) → Decides (same x y) (x ≡ y)
 
 -- the number of a node: where it stands on the sheet, or the next free number
 abbrev pub number_on : CoreNode → List CoreNode → ℕ

@@ -1,7 +1,7 @@
 // A sheet of our own, on which a core form is written before the caller's sheet is looked at.
 ghost use Rattle.std.specs.Prelude.{◌≡◌, ◌≤◌, List, [], length, take};
 ghost use Rattle.std.specs.List.{position};
-ghost use Rattle.automata.specs.Sheets.{same, put};
+ghost use Rattle.automata.specs.Sheets.{SameDecides, same, put};
 ghost use Rattle.automata.specs.declared.nodes.CoreNode.{CoreNode as AnyNode};
 ghost use Rattle.coreform.specs.Drafts.{Drafted};
 ghost use Rattle.coreform.specs.declared.draft.TheConstants.{MOST_NODES};
@@ -29,7 +29,8 @@ impl Model for Draft {
 
 // Where a node stands.
 fn number_on(nodes: &[CoreNode], node: CoreNode) -> Option<usize>
-    ensures { result ≡ position (λ x. same x node) nodes.now }
+    ensures position { result ≡ position (λ x. same x node) nodes.now }
+    ensures equal { SameDecides }
 {
     nodes.iter().position(|written| *written == node)
 }

@@ -1,5 +1,5 @@
 -- When two nodes are equal, and where a node stands in a list of nodes.
-use Rattle.std.specs.Prelude.{ℕ, ◌+◌, Bool, cond, ◌&&◌, List, [], ◌∷◌, Some, None, Option, ◌==◌}
+use Rattle.std.specs.Prelude.{◌≡◌, ℕ, ◌+◌, Bool, Decides, cond, ◌&&◌, List, [], ◌∷◌, Some, None, Option, ◌==◌}
 use Rattle.rules.specs.declared.node.Node.{Node}
 use Rattle.rules.specs.declared.node.Node.TheVariants.{True, False, Signal, Unary, Binary}
 use Rattle.rules.specs.declared.node.UnaryOp.{UnaryOp}
@@ -53,6 +53,10 @@ second_of (Binary o a b) = b.index
 -- whether two nodes are equal: the same command byte and the same operands
 unfoldable pub same : Node → Node → Bool
 same x y = byte_of x == byte_of y && (first_of x == first_of y && second_of x == second_of y)
+
+-- it is true of equal nodes and of no others, and so reflexive, symmetric and transitive
+abbrev pub SameDecides : Type 0
+SameDecides = (x y : Node) → Decides (same x y) (x ≡ y)
 
 -- the first place of a node equal to n in the list, counted from i
 abbrev pub place_from : ℕ → Node → List Node → Option ℕ

@@ -1,6 +1,6 @@
 // The nodes of a book at their places.
 ghost use Rattle.std.specs.Prelude.{◌≡◌, ◌<◌, length, IfSome};
-ghost use Rattle.rules.specs.Nodes.{same, place_of};
+ghost use Rattle.rules.specs.Nodes.{SameDecides, same, place_of};
 
 use crate::node::Node;
 
@@ -19,6 +19,7 @@ pub struct Table {
 pub(crate) fn place_in(nodes: &[Node], node: Node) -> Option<usize>
     ensures place { result ≡ place_of node nodes.now }
     ensures inside { IfSome result (λ place. place < length nodes.now) }
+    ensures equal { SameDecides }
 {
     nodes.iter().position(
         |entered|

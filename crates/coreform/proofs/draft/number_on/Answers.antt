@@ -8,5 +8,8 @@ use Rattle.automata.specs.Sheets.{same}
 use Rattle.automata.proofs.Again.{same_decides}
 use Rattle.coreform.proofs.draft.number_on.Goals as goal
 
-pub returns : goal.returns
-returns c = position_from_yields_List (λ x. same x c.args.node) _ _ _ c.position.ensures.ran (YieldsList-from_slice c.args.nodes.now cc) (λ x b q k. (search (rules, tests), same_from_decides b _ (search (comparing, rules, tests)) (same_decides _ _)))
+pub returns-clause-position : goal.returns-clause-position
+returns-clause-position c = position_from_yields_List (λ x. same x c.args.node) _ _ _ c.position.ensures.ran (YieldsList-from_slice c.args.nodes.now cc) (λ x b q k. (search (rules, tests), same_from_decides b _ (search (comparing, rules, tests)) (same_decides _ _)))
+
+pub returns-clause-equal : goal.returns-clause-equal
+returns-clause-equal c = same_decides
