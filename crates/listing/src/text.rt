@@ -31,12 +31,15 @@ impl HeadLine {
         ensures { result ≡ head_of answer.now }
     {
         match answer {
-            Ok(Listed::Finished(finished)) => HeadLine::Automaton {
-                states: finished.states(),
-                arcs: finished.arcs(),
-                sets: finished.mark_sets(),
-                steps: finished.steps(),
-            },
+            Ok(Listed::Finished(finished)) => {
+                let totals = finished.totals();
+                HeadLine::Automaton {
+                    states: totals.states(),
+                    arcs: totals.arcs(),
+                    sets: totals.mark_sets(),
+                    steps: totals.steps(),
+                }
+            }
             Ok(Listed::NoRoom(_, lack)) => HeadLine::NoRoom(*lack),
             Err(fault) => HeadLine::Refused(*fault),
         }

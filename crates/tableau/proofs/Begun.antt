@@ -1,7 +1,9 @@
 -- Which refusal of a begin call stands.
-use Rattle.std.proofs.Common.{◌≡◌, ℕ, ◌<◌, ◌≤◌, Bool, true, false, cond, ltb, leb, List, [], ◌∷◌, length, drop, set, Some, None, Ok, Err, Result, sym, refl, ap, ◌∙◌, arith}
-use Rattle.std.proofs.lemmas.Bool.{ltb-true, leb-true, lt-ltb, le-ltb, le-leb, lt-leb, cond-true, cond-false}
+use Rattle.std.proofs.Common.{◌≡◌, ℕ, ◌<◌, ◌≤◌, Bool, true, false, cond, ltb, leb, List, [], ◌∷◌, ◌++◌, length, drop, set, Some, None, Ok, Err, Option, Result, sym, refl, ap, ◌∙◌, subst, arith}
+use Rattle.std.proofs.lemmas.Bool.{ltb-false, leb-true, le-leb, lt-leb, cond-true, cond-false}
+use Rattle.std.specs.Result.{IsErrAnd}
 use Rattle.automata.specs.Sheets.{Written}
+use Rattle.automata.specs.Steps.{untils_below}
 use Rattle.automata.specs.declared.items.Item.{Item}
 use Rattle.automata.specs.declared.nodes.CoreNode.{CoreNode}
 use Rattle.automata.proofs.Again.{write_root}
@@ -10,74 +12,115 @@ use Rattle.coreform.specs.declared.form.FormFault.{FormFault}
 use Rattle.coreform.specs.declared.form.FormFault.TheVariants.{NotInBook, TooManyNodes}
 use Rattle.rules.specs.declared.node.Node.{Node}
 use Rattle.rules.specs.declared.node.Place.{Place}
-use Rattle.tableau.specs.Beginning.{cores, untils, short_for, begin_fault}
+use Rattle.tableau.specs.Beginning.{cores, untils, short_for, begin_fault, first_item, begun, begins, Begins, refused, begun_at}
+use Rattle.tableau.specs.Refusals.{short_of}
+use Rattle.tableau.specs.declared.fault.BeginFault.{BeginFault}
 use Rattle.tableau.specs.declared.fault.BeginFault.TheVariants.{Form, TooManyUntils, Short}
 use Rattle.tableau.specs.declared.fault.LentList.TheVariants.{Sheet, Pending}
+use Rattle.tableau.specs.declared.fault.ShortFault.{ShortFault}
+use Rattle.tableau.specs.declared.translation.Running.{Running}
 
-ok≢err : {X Y : Type 0} (x : X) (y : Y) → ◌≡◌ {A = Result X Y} (Ok x) (Err y) → ⊥
-ok≢err x y e = let z : ◌≡◌ {A = ℕ} 0 1 = cc in omega arith
+-- the first entry of a list
+set_first : {X : Type 0} (xs : List X) (y : X) → 0 < length xs → set xs 0 y ≡ y ∷ drop 1 xs
+set_first [] y h = absurd (omega arith)
+set_first (x ∷ xs) y h = refl
 
-ok_same : {X Y : Type 0} {x y : X} → ◌≡◌ {A = Result X Y} (Ok x) (Ok y) → x ≡ y
-ok_same e = cc
-
-err_same : {X Y : Type 0} {x y : Y} → ◌≡◌ {A = Result X Y} (Err x) (Err y) → x ≡ y
-err_same e = cc
-
-module _ (book : List Node) (place : Place) where
+module _ (book : List Node) (place : Place) (sheet : List CoreNode) (pending : List Item) where
   abbrev form : Written
   form = form_at book place
 
-  -- what there is a core form of
-  pub record HasForm (w : Written) : Type 0 where
-    pub inside : place.index < length book
-    pub few : cores form ≤ 64
-    pub is : w ≡ form
+  -- the refusal that stands, by what core_form answers
+  abbrev after_form : Result Written FormFault → Option BeginFault
+  after_form (Ok w) = cond (leb (untils w) 16) (short_for (cores w) sheet pending) (Some (TooManyUntils (untils w)))
+  after_form (Err fault) = Some (Form fault)
 
-  pub has_form : (w : Written) → Ok w ≡ formed book place → HasForm w
-  has_form w e = go (ltb place.index (length book)) refl (leb (cores form) 64) refl e
+  by_form : begin_fault book place sheet pending ≡ after_form (formed book place)
+  by_form = go (ltb place.index (length book)) (leb (cores form) 64)
     where
-      go : (a : Bool) → ltb place.index (length book) ≡ a → (b : Bool) → leb (cores form) 64 ≡ b
-          → Ok w ≡ cond a (cond b (Ok form) (Err TooManyNodes)) (Err (NotInBook place)) → HasForm w
-      go true p true q e = record { inside = ltb-true _ _ p; few = leb-true _ _ q; is = ok_same e }
-      go true p false q e = absurd (ok≢err w TooManyNodes e)
-      go false p b q e = absurd (ok≢err w (NotInBook place) e)
+      go : (a b : Bool)
+          → cond a (cond b (after_form (Ok form)) (Some (Form TooManyNodes))) (Some (Form (NotInBook place)))
+          ≡ after_form (cond a (cond b (Ok form) (Err TooManyNodes)) (Err (NotInBook place)))
+      go true true = refl
+      go true false = refl
+      go false b = refl
 
-  module _ (sheet : List CoreNode) (pending : List Item) where
-    pub fault_form : (fault : FormFault) → Err fault ≡ formed book place → begin_fault book place sheet pending ≡ Some (Form fault)
-    fault_form fault e = go (ltb place.index (length book)) refl (leb (cores form) 64) refl e
+  -- a refusal that `?` passes on
+  passed_on : (fault : BeginFault) (r : Result Running BeginFault) → begin_fault book place sheet pending ≡ Some fault → IsErrAnd r (λ e. e ≡ fault)
+      → Begins book place sheet pending (begins r) sheet pending
+  passed_on fault (Ok t) e h = absurd h
+  passed_on fault (Err f) e h = refused e (ap Err h) refl refl
+
+  pub no_form : (fault : FormFault) (r : Result Running BeginFault) → Err fault ≡ formed book place → IsErrAnd r (λ e. e ≡ Form fault)
+      → Begins book place sheet pending (begins r) sheet pending
+  no_form fault r e h = passed_on (Form fault) r (by_form ∙ ap after_form (sym e)) h
+
+  module _ (w : Written) (is : Ok w ≡ formed book place) where
+    is_form : (w ≡ form) × (cores w ≤ 64)
+    is_form = go (ltb place.index (length book)) (leb (cores form) 64) refl is
       where
-        go : (a : Bool) → ltb place.index (length book) ≡ a → (b : Bool) → leb (cores form) 64 ≡ b
-            → Err fault ≡ cond a (cond b (Ok form) (Err TooManyNodes)) (Err (NotInBook place))
-            → cond a (cond b (cond (leb (untils form) 16) (short_for (cores form) sheet pending) (Some (TooManyUntils (untils form)))) (Some (Form TooManyNodes))) (Some (Form (NotInBook place))) ≡ Some (Form fault)
-        go true p true q e = absurd (ok≢err form fault (sym e))
-        go true p false q e = ap (λ f. Some (Form f)) (sym (err_same e))
-        go false p b q e = ap (λ f. Some (Form f)) (sym (err_same e))
+        go : (a b : Bool) → leb (cores form) 64 ≡ b → Ok w ≡ cond a (cond b (Ok form) (Err TooManyNodes)) (Err (NotInBook place)) → (w ≡ form) × (cores w ≤ 64)
+        go true true q e =
+            let i : w ≡ form = cc in
+            (i, subst (λ w. cores w ≤ 64) (sym i) (leb-true _ _ q))
+        go true false q e = let z : ◌≡◌ {A = ℕ} 0 1 = cc in absurd (omega arith)
+        go false b q e = let z : ◌≡◌ {A = ℕ} 0 1 = cc in absurd (omega arith)
 
-    module _ (inside : place.index < length book) (few : cores form ≤ 64) where
-      past_form : begin_fault book place sheet pending ≡ cond (leb (untils form) 16) (short_for (cores form) sheet pending) (Some (TooManyUntils (untils form)))
-      past_form = cond-true _ _ _ (lt-ltb place.index (length book) inside) ∙ cond-true _ _ _ (le-leb (cores form) 64 few)
+    -- the number of the whole is one of its nodes
+    pub root_few : w.root < 64
+    root_few =
+        let h = write_root _ [] in
+        let r : w.root < cores w = subst (λ w. w.root < cores w) (sym is_form.0) h in
+        omega (arith, is_form.1)
 
-      pub fault_untils : 16 < untils form → begin_fault book place sheet pending ≡ Some (TooManyUntils (untils form))
-      fault_untils h = past_form ∙ cond-false _ _ _ (lt-leb (untils form) 16 h)
+    module _ (nodes : List CoreNode) (from : nodes ≡ w.sheet) (n : ℕ) (count : n ≡ untils_below nodes (length nodes)) where
+      counted : n ≡ untils w
+      counted = count ∙ ap (λ s. untils_below s (length s)) from
 
-      module _ (less : untils form ≤ 16) where
-        past_untils : begin_fault book place sheet pending ≡ short_for (cores form) sheet pending
-        past_untils = past_form ∙ cond-true _ _ _ (le-leb (untils form) 16 less)
+      pub too_many : 16 < n → Begins book place sheet pending (Err (TooManyUntils n)) sheet pending
+      too_many h =
+          let c = counted in
+          refused (by_form ∙ ap after_form (sym is) ∙ cond-false _ _ _ (lt-leb (untils w) 16 (omega arith))) (ap (λ n. Err (TooManyUntils n)) c) refl refl
 
-        pub fault_sheet : length sheet < cores form → begin_fault book place sheet pending ≡ Some (Short (record { list = Sheet; needed = cores form }))
-        fault_sheet h = past_untils ∙ cond-true _ _ _ (lt-ltb (length sheet) (cores form) h)
+      module _ (few : n ≤ 16) where
+        by_lists : begin_fault book place sheet pending ≡ short_for (length nodes) sheet pending
+        by_lists =
+            let c = counted in
+            by_form ∙ ap after_form (sym is) ∙ cond-true _ _ _ (le-leb (untils w) 16 (omega arith)) ∙ ap (λ s. short_for (length s) sheet pending) (sym from)
 
-        pub fault_pending : cores form ≤ length sheet → length pending ≡ 0 → begin_fault book place sheet pending ≡ Some (Short (record { list = Pending; needed = 1 }))
-        fault_pending h z = past_untils ∙ cond-false _ _ _ (le-ltb (length sheet) (cores form) h) ∙ cond-true _ _ _ (lt-ltb (length pending) 1 (omega arith))
+        pub short_sheet : (fault : ShortFault) (r : Result Running BeginFault) → Some fault ≡ short_of Sheet (length sheet) (length nodes) → IsErrAnd r (λ e. e ≡ Short fault)
+            → Begins book place sheet pending (begins r) sheet pending
+        short_sheet fault r e h = passed_on (Short fault) r (by_lists ∙ go (ltb (length sheet) (length nodes)) e) h
+          where
+            go : (t : Bool) → Some fault ≡ cond t (Some (record { list = Sheet; needed = length nodes })) None
+                → cond t (Some (Short (record { list = Sheet; needed = length nodes }))) (cond (ltb (length pending) 1) (Some (Short (record { list = Pending; needed = 1 }))) None) ≡ Some (Short fault)
+            go true e = cc
+            go false e = let z : ◌≡◌ {A = ℕ} 0 1 = cc in absurd (omega arith)
 
-        pub fault_none : cores form ≤ length sheet → 0 < length pending → begin_fault book place sheet pending ≡ None
-        fault_none h z = past_untils ∙ cond-false _ _ _ (le-ltb (length sheet) (cores form) h) ∙ cond-false _ _ _ (le-ltb (length pending) 1 (omega arith))
+        module _ (enough : None ≡ short_of Sheet (length sheet) (length nodes)) where
+          pub short_pending : (fault : ShortFault) (r : Result Running BeginFault) → Some fault ≡ short_of Pending (length pending) 1 → IsErrAnd r (λ e. e ≡ Short fault)
+              → Begins book place sheet pending (begins r) sheet pending
+          short_pending fault r e h = passed_on (Short fault) r (by_lists ∙ go (ltb (length sheet) (length nodes)) (ltb (length pending) 1) enough e) h
+            where
+              go : (s t : Bool) → ◌≡◌ {A = Option ShortFault} None (cond s (Some (record { list = Sheet; needed = length nodes })) None) → Some fault ≡ cond t (Some (record { list = Pending; needed = 1 })) None
+                  → cond s (Some (Short (record { list = Sheet; needed = length nodes }))) (cond t (Some (Short (record { list = Pending; needed = 1 }))) None) ≡ Some (Short fault)
+              go true t d e = let z : ◌≡◌ {A = ℕ} 0 1 = cc in absurd (omega arith)
+              go false true d e = cc
+              go false false d e = let z : ◌≡◌ {A = ℕ} 0 1 = cc in absurd (omega arith)
 
-  -- the number of the whole is one of its nodes
-  pub root_inside : form.root < cores form
-  root_inside = write_root _ []
-
--- the first entry of a list
-pub set_first : {X : Type 0} (xs : List X) (y : X) → 0 < length xs → set xs 0 y ≡ y ∷ drop 1 xs
-set_first [] y h = absurd (omega arith)
-set_first (x ∷ xs) y h = refl
+          pub has_begun : (front : List CoreNode) (item : Item) → None ≡ short_of Pending (length pending) 1 → front ≡ nodes → item ≡ first_item w.root
+              → Begins book place sheet pending (Ok (record { cores = length nodes; sets = n; steps = 0; states = 0; arcs = 0; pending = 1 }))
+              (front ++ drop (length nodes) sheet) (set pending 0 item)
+          has_begun front item e f i =
+              let same = is_form.0 in
+              let both = go (ltb (length sheet) (length nodes)) (ltb (length pending) 1) refl enough e in
+              begun_at (by_lists ∙ both.0)
+              ((λ j. Ok (record { cores = length (from j); sets = counted j; steps = 0; states = 0; arcs = 0; pending = 1 })) ∙ ap (λ w. Ok (begun w)) same)
+              (ap (λ s. s ++ drop (length nodes) sheet) f ∙ ap (λ s. s ++ drop (length s) sheet) (from ∙ ap (λ w. w.sheet) same))
+              (set_first pending item both.1 ∙ ap (λ x. x ∷ drop 1 pending) (i ∙ ap (λ w. first_item w.root) same))
+            where
+              go : (s t : Bool) → ltb (length pending) 1 ≡ t → ◌≡◌ {A = Option ShortFault} None (cond s (Some (record { list = Sheet; needed = length nodes })) None)
+                  → ◌≡◌ {A = Option ShortFault} None (cond t (Some (record { list = Pending; needed = 1 })) None)
+                  → (◌≡◌ {A = Option BeginFault} (cond s (Some (Short (record { list = Sheet; needed = length nodes }))) (cond t (Some (Short (record { list = Pending; needed = 1 }))) None)) None) × (0 < length pending)
+              go true t q d e = let z : ◌≡◌ {A = ℕ} 0 1 = cc in absurd (omega arith)
+              go false true q d e = let z : ◌≡◌ {A = ℕ} 0 1 = cc in absurd (omega arith)
+              go false false q d e = (refl, omega (arith, ltb-false _ _ q))

@@ -1,9 +1,6 @@
 pub mod Begun
-pub mod Copied
-pub mod Found
 pub mod Gathered
 pub mod Planned
-pub mod Sound
 pub mod Stepped
 pub mod Turns
 pub mod Walking

@@ -1,16 +1,16 @@
 -- The steps made, as the call tells of them.
-use Rattle.std.proofs.Common.{◌≡◌, ℕ, ◌-◌, ◌≤◌, List, ◌++◌, length, take, drop, None, sym, refl, ap, ◌∙◌, subst, arith}
+use Rattle.std.proofs.Common.{◌≡◌, ℕ, ◌≤◌, List, ◌++◌, length, take, drop, None, sym, refl, ap, ◌∙◌, subst, arith}
 use Rattle.std.proofs.lemmas.List.{reverse-reverse}
 use Rattle.std.proofs.lemmas.List.{length-take-le, length-reverse, take-append-drop}
 use Rattle.automata.specs.Steps.{Config}
 use Rattle.automata.specs.declared.items.Arc.{Arc}
 use Rattle.automata.specs.declared.items.Item.{Item}
 use Rattle.automata.specs.declared.items.State.{State}
-use Rattle.tableau.specs.Ends.{walk_told}
+use Rattle.tableau.specs.Ends.{stopped_told}
 use Rattle.tableau.specs.Stepping.{Lists, lists, Standing, standing_at, advanced_by, short_list, Answer, progress, Written, Steps, stepped}
-use Rattle.tableau.specs.Walks.{config_of, answer_of, Walked}
+use Rattle.tableau.specs.Walks.{config_of, answer_at, Walked}
 use Rattle.tableau.specs.declared.rooms.Counts.{Counts}
-use Rattle.tableau.specs.declared.walks.Walk.{Walk}
+use Rattle.tableau.specs.declared.walks.Stopped.{Stopped}
 
 -- the numbers from which the steps begin
 abbrev pub from : Standing → Counts
@@ -22,7 +22,7 @@ over n old new h e =
     let l = length-take-le n new h in
     sym (take-append-drop n new) ∙ (λ j. take n new ++ e j) ∙ ap (λ k. take n new ++ drop k old) (sym l)
 
-module _ (s : Standing) (l : Lists) (n : ℕ) (w : Walk) (ss : List State) (xs : List Arc) (ps : List Item)
+module _ (s : Standing) (l : Lists) (n : ℕ) (w : Stopped) (ss : List State) (xs : List Arc) (ps : List Item)
     (walked : Walked (take s.cores l.sheet) (from s) l.states l.arcs l.pending n w ss xs ps) where
   abbrev made : Config
   made = config_of w.counts ss xs ps
@@ -39,12 +39,12 @@ module _ (s : Standing) (l : Lists) (n : ℕ) (w : Walk) (ss : List State) (xs :
   pending_count : length made.pending ≡ w.counts.pending
   pending_count = length-reverse (take w.counts.pending ps) ∙ length-take-le w.counts.pending ps pending_fit
 
-  told_is : walk_told s.cores s.sets w ≡ progress (advanced_by n s l).answer (standing_at s (advanced_by n s l).config)
+  told_is : stopped_told s.cores s.sets w ≡ progress (advanced_by n s l).answer (standing_at s (advanced_by n s l).config)
   told_is =
       let a = sym (length-take-le w.counts.states ss states_fit) in
       let b = sym (length-take-le w.counts.arcs xs arcs_fit) in
       let c = sym pending_count in
-      (λ j. progress (answer_of w.outcome) (record { cores = s.cores; sets = s.sets; steps = w.counts.steps; states = a j; arcs = b j; pending = c j }))
+      (λ j. progress (answer_at w.lack w.counts.pending) (record { cores = s.cores; sets = s.sets; steps = w.counts.steps; states = a j; arcs = b j; pending = c j }))
       ∙ (λ j. progress (walked.advanced j).answer (standing_at s (walked.advanced j).config))
 
   written_is : Written made l (lists l.sheet ss xs ps)
@@ -60,13 +60,5 @@ module _ (s : Standing) (l : Lists) (n : ℕ) (w : Walk) (ss : List State) (xs :
         pending_long = k.long_pending;
       }
 
-  steps_are : None ≡ short_list s l → (a : Answer) → a ≡ walk_told s.cores s.sets w → Steps s l n a (lists l.sheet ss xs ps)
+  pub steps_are : None ≡ short_list s l → (a : Answer) → a ≡ stopped_told s.cores s.sets w → Steps s l n a (lists l.sheet ss xs ps)
   steps_are e a f = stepped (sym e) (f ∙ told_is) (subst (λ c. Written c l (lists l.sheet ss xs ps)) (λ j. (walked.advanced j).config) written_is)
-
--- the part of the sheet from 0 on, as it is lent
-pub all_steps : (s : Standing) (l : Lists) (n : ℕ) (w : Walk) (ss : List State) (xs : List Arc) (ps : List Item)
-    → Walked (take (s.cores - 0) l.sheet) (from s) l.states l.arcs l.pending n w ss xs ps
-    → None ≡ short_list s l → (a : Answer) → a ≡ walk_told s.cores s.sets w → Steps s l n a (lists l.sheet ss xs ps)
-all_steps s l n w ss xs ps walked =
-    let e : s.cores - 0 ≡ s.cores = omega arith in
-    steps_are s l n w ss xs ps (subst (λ k. Walked (take k l.sheet) (from s) l.states l.arcs l.pending n w ss xs ps) e walked)

@@ -1,23 +1,23 @@
 -- One step over the lists.
-use Rattle.std.proofs.Common.{◌≡◌, ℕ, ◌+◌, ◌-◌, ◌<◌, ◌≤◌, Bool, true, false, cond, ltb, List, ◌++◌, reverse, length, get_or, take, Some, None, Option, sym, refl, ap, ◌∙◌, subst, arith, length-append}
+use Rattle.std.proofs.Common.{◌≡◌, ℕ, ◌+◌, ◌-◌, ◌<◌, ◌≤◌, Bool, true, false, cond, ltb, List, ◌++◌, reverse, length, get_or, take, Some, None, Ok, Err, Option, Result, sym, refl, ap, ◌∙◌, subst, arith, length-append}
 use Rattle.std.proofs.lemmas.List.{length-take-le, length-reverse}
 use Rattle.std.proofs.lemmas.Bool.{ltb-false}
-use Rattle.automata.specs.Steps.{Config, Progressed, running, no_room, within, one_step}
+use Rattle.std.specs.Result.{IsErrAnd}
+use Rattle.automata.specs.Steps.{Config, Progressed, running, no_room, within, step_with, one_step}
 use Rattle.automata.specs.Steps.{steps as no_steps, states as no_states, arcs as no_arcs, pending as no_pending}
 use Rattle.automata.specs.declared.items.Arc.{Arc}
 use Rattle.automata.specs.declared.items.Item.{Item}
 use Rattle.automata.specs.declared.items.State.{State}
 use Rattle.automata.specs.declared.nodes.CoreNode.{CoreNode}
-use Rattle.tableau.specs.Plans.{planned, new_states, new_arcs, new_items, applied, states_with, arcs_with, items_with}
+use Rattle.tableau.specs.Plans.{DoesStep, new_states, new_arcs, new_items, applied, states_with, arcs_with, items_with}
 use Rattle.tableau.specs.Rooms.{counts_with, lack_of, Within}
 use Rattle.tableau.specs.Stepping.{lacking_of}
-use Rattle.tableau.specs.Walks.{config_of, room_in, Went, Stuck}
+use Rattle.tableau.specs.Walks.{config_of, room_in, Went, Turned}
 use Rattle.tableau.specs.declared.plans.Plan.{Plan}
 use Rattle.tableau.specs.declared.rooms.Counts.{Counts}
 use Rattle.tableau.specs.declared.rooms.Space.{Space}
 use Rattle.tableau.specs.declared.translation.Lack.{Lack}
 use Rattle.tableau.specs.declared.translation.Lack.TheVariants.{Steps, States, Arcs, Pending}
-use Rattle.tableau.proofs.Planned.{planned_step}
 use Rattle.tableau.proofs.Written.{top, states_added, arcs_added, items_put, items_long}
 
 verdict : Option Lack → Progressed
@@ -59,16 +59,9 @@ enough p c s e =
       pending = ltb-false _ _ n.3;
     }
 
--- a part from 0 on, as it is lent
-pub plan_at : (sheet : List CoreNode) (ss : List State) (xs : List Arc) (i : Item) (m n : ℕ) (p : Plan) → p ≡ planned sheet (take (m - 0) ss) (take (n - 0) xs) i → p ≡ planned sheet (take m ss) (take n xs) i
-plan_at sheet ss xs i m n p e =
-    let a : m - 0 ≡ m = omega arith in
-    let b : n - 0 ≡ n = omega arith in
-    e ∙ (λ j. planned sheet (take (a j) ss) (take (b j) xs) i)
-
 module _ (sheet : List CoreNode) (s : Space) (c : Counts) (ss : List State) (xs : List Arc) (ps : List Item) (d : Item) (p : Plan)
     (inside : Within c s) (some : 0 < c.pending) (long_s : s.states ≤ length ss) (long_a : s.arcs ≤ length xs) (long_p : s.pending ≤ length ps)
-    (is : p ≡ planned sheet (take c.states ss) (take c.arcs xs) (get_or ps (c.pending - 1) d)) where
+    (is : DoesStep sheet (take c.states ss) (take c.arcs xs) (get_or ps (c.pending - 1) d) p) where
   abbrev before : Config
   before = config_of c ss xs ps
 
@@ -77,8 +70,7 @@ module _ (sheet : List CoreNode) (s : Space) (c : Counts) (ss : List State) (xs 
 
   step_is : one_step sheet before ≡ applied p left before
   step_is =
-      planned_step sheet (get_or ps (c.pending - 1) d) left before (top c.pending ps d some (omega (arith, inside.pending)))
-      ∙ ap (λ q. applied q left before) (sym is)
+      ap (λ q. step_with sheet q before) (top c.pending ps d some (omega (arith, inside.pending))) ∙ is before left refl refl
 
   states_count : length (before.states ++ new_states p) ≡ c.states + length (new_states p)
   states_count = length-append before.states (new_states p) ∙ ap (λ n. n + length (new_states p)) (length-take-le c.states ss (omega (arith, inside.states)))
@@ -102,9 +94,11 @@ module _ (sheet : List CoreNode) (s : Space) (c : Counts) (ss : List State) (xs 
       ∙ first_lack (ltb 4294967295 (c.steps + 1)) (ltb s.states (c.states + length (new_states p))) (ltb s.arcs (c.arcs + length (new_arcs p))) (ltb s.pending (c.pending - 1 + length (new_items p)))
       ∙ ap verdict (sym e)
 
-  pub stuck : (l : Lack) → Some l ≡ lack_of p c s → Stuck sheet s c ss xs ps l ss xs ps
+  -- a lack that `?` passes on
+  pub stuck : (l : Lack) (r : Result Counts Lack) → Some l ≡ lack_of p c s → IsErrAnd r (λ m. m ≡ l) → Turned sheet s c ss xs ps r ss xs ps
   unfolding verdict
-  stuck l e = record { room = room_is (Some l) e; states = refl; arcs = refl; pending = refl }
+  stuck l (Ok r) e h = absurd h
+  stuck l (Err m) e h = record { room = room_is (Some m) (ap (λ l. Some l) h ∙ e); states = refl; arcs = refl; pending = refl }
 
   pub went : None ≡ lack_of p c s → (r : Counts) (ss' : List State) (xs' : List Arc) (ps' : List Item)
       → r ≡ counts_with p c → ss' ≡ states_with p c.states ss → xs' ≡ arcs_with p c.arcs xs → ps' ≡ items_with p c.pending ps

@@ -1,14 +1,16 @@
 -- What is told of the steps made.
 use Rattle.std.specs.Prelude.{ℕ}
-use Rattle.tableau.specs.Stepping.{Standing, Answer, progress}
-use Rattle.tableau.specs.Walks.{answer_of}
-use Rattle.tableau.specs.declared.rooms.Counts.{Counts}
-use Rattle.tableau.specs.declared.walks.Walk.{Walk}
+use Rattle.tableau.specs.Stepping.{Answer, progress}
+use Rattle.tableau.specs.Walks.{answer_at}
+use Rattle.tableau.specs.declared.walks.Stopped.{Stopped}
 
--- the numbers of a translation with these core nodes and mark sets, and these counts
-abbrev pub standing_of : ℕ → ℕ → Counts → Standing
-standing_of cores sets c = record { cores = cores; sets = sets; steps = c.steps; states = c.states; arcs = c.arcs; pending = c.pending }
-
--- what step answers after a walk
-abbrev pub walk_told : ℕ → ℕ → Walk → Answer
-walk_told cores sets w = progress (answer_of w.outcome) (standing_of cores sets w.counts)
+-- what step answers of a translation with these core nodes and mark sets, where its steps have stopped
+abbrev pub stopped_told : ℕ → ℕ → Stopped → Answer
+stopped_told cores sets s = progress (answer_at s.lack s.counts.pending) (record {
+  cores = cores;
+  sets = sets;
+  steps = s.counts.steps;
+  states = s.counts.states;
+  arcs = s.counts.arcs;
+  pending = s.counts.pending;
+})

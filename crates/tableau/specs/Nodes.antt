@@ -1,22 +1,10 @@
 -- Nodes as they are read from a sheet.
-use Rattle.std.specs.Prelude.{ℕ, ◌<◌, Bool, true, ◌&&◌, ◌==◌, nat_lt}
+use Rattle.std.specs.Prelude.{ℕ, Bool, true, ◌&&◌, ◌==◌, nat_lt}
 use Rattle.automata.specs.declared.items.Arc.{Arc}
 use Rattle.automata.specs.declared.items.State.{State}
 use Rattle.automata.specs.declared.nodes.CoreSet.{CoreSet}
 use Rattle.automata.specs.declared.nodes.CoreNode.{CoreNode}
-use Rattle.automata.specs.declared.nodes.CoreNode.TheVariants.{True, False, On, Off, Next, And, Or, Until, Release}
-
--- the numbers and signals that it names are below 64
-abbrev pub Sound : CoreNode → Type 0
-Sound True = Unit {0}
-Sound False = Unit {0}
-Sound (On s) = s < 64
-Sound (Off s) = s < 64
-Sound (Next a) = a < 64
-Sound (And a b) = (a < 64) × (b < 64)
-Sound (Or a b) = (a < 64) × (b < 64)
-Sound (Until a b) = (a < 64) × (b < 64)
-Sound (Release a b) = (a < 64) × (b < 64)
+use Rattle.automata.specs.declared.nodes.CoreNode.TheVariants.{On, Off, Next, And, Or, Until, Release}
 
 -- both numbers are below n
 abbrev pub both_below : ℕ → ℕ → ℕ → Bool
@@ -24,8 +12,6 @@ both_below n a b = nat_lt a n && nat_lt b n
 
 -- whether each number that a node names is below n, and each signal below 64
 abbrev pub sound_on : ℕ → CoreNode → Bool
-sound_on n True = true
-sound_on n False = true
 sound_on n (On s) = nat_lt s 64
 sound_on n (Off s) = nat_lt s 64
 sound_on n (Next a) = nat_lt a n
@@ -33,6 +19,7 @@ sound_on n (And a b) = both_below n a b
 sound_on n (Or a b) = both_below n a b
 sound_on n (Until a b) = both_below n a b
 sound_on n (Release a b) = both_below n a b
+sound_on n node = true
 
 -- the state has this Old and Next
 abbrev pub is_state : State → CoreSet → CoreSet → Bool

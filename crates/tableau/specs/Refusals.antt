@@ -1,9 +1,14 @@
--- The numbers of the refusals of begin and step.
-use Rattle.std.specs.Prelude.{ℕ}
+-- The refusals of begin and step, and their numbers.
+use Rattle.std.specs.Prelude.{ℕ, cond, Some, None, Option, nat_lt}
 use Rattle.coreform.specs.Forms.{form_number}
 use Rattle.tableau.specs.declared.fault.BeginFault.{BeginFault}
 use Rattle.tableau.specs.declared.fault.BeginFault.TheVariants.{Form, TooManyUntils, Short}
+use Rattle.tableau.specs.declared.fault.LentList.{LentList}
 use Rattle.tableau.specs.declared.fault.ShortFault.{ShortFault}
+
+-- the refusal of a list with this length: it is shorter than needed
+abbrev pub short_of : LentList → ℕ → ℕ → Option ShortFault
+short_of list length needed = cond (nat_lt length needed) (Some (record { list = list; needed = needed })) None
 
 -- of a refusal of step
 abbrev pub step_number : ShortFault → ℕ

@@ -14,6 +14,7 @@ use Rattle.tableau.specs.declared.translation.Lack.TheVariants.{Steps as LackSte
 use Rattle.tableau.specs.declared.translation.Progress.{Progress}
 use Rattle.tableau.specs.declared.translation.Progress.TheVariants.{Finished, Running, NoRoom}
 use Rattle.tableau.specs.declared.translation.Running.{Running as RunningT}
+use Rattle.tableau.specs.declared.translation.Totals.{Totals}
 use Rattle.tableau.specs.declared.fault.ShortFault.{ShortFault}
 use Rattle.tableau.specs.declared.translation.StepRefused.{StepRefused}
 
@@ -38,13 +39,17 @@ pub record Standing : Type 0 where
   pub arcs : ℕ
   pub pending : ℕ
 
+-- the numbers of a translation with these totals and so many pending items
+abbrev pub standing_with : Totals → ℕ → Standing
+standing_with t pending = record { cores = t.cores; sets = t.sets; steps = t.steps; states = t.states; arcs = t.arcs; pending = pending }
+
 -- the numbers of a running translation
 abbrev pub standing : RunningT → Standing
-standing t = record { cores = t.cores; sets = t.sets; steps = t.steps; states = t.states; arcs = t.arcs; pending = t.pending }
+standing t = standing_with t.totals t.pending
 
 -- no item is pending of a finished one
 abbrev pub ended : FinishedT → Standing
-ended t = record { cores = t.cores; sets = t.sets; steps = t.steps; states = t.states; arcs = t.arcs; pending = 0 }
+ended t = standing_with t.totals 0
 
 -- what the lists hold: the item put in last has the highest place
 abbrev pub config : Standing → Lists → Config

@@ -1,5 +1,5 @@
 -- Step after step over the lists, by the counts of what is in use.
-use Rattle.std.specs.Prelude.{◌≡◌, ℕ, ◌≤◌, min, cond, List, reverse, length, take, drop, Ok, Err, Result, ◌==◌}
+use Rattle.std.specs.Prelude.{◌≡◌, ℕ, ◌≤◌, min, cond, List, reverse, length, take, drop, Some, None, Ok, Err, Option, Result, ◌==◌}
 use Rattle.automata.specs.Steps.{Config, Room, Progressed, finished, running, no_room, Advanced, within, one_step, advance}
 use Rattle.automata.specs.declared.items.Arc.{Arc}
 use Rattle.automata.specs.declared.items.Item.{Item}
@@ -11,9 +11,7 @@ use Rattle.tableau.specs.Stepping.{lacking_of}
 use Rattle.tableau.specs.declared.rooms.Counts.{Counts}
 use Rattle.tableau.specs.declared.rooms.Space.{Space}
 use Rattle.tableau.specs.declared.translation.Lack.{Lack}
-use Rattle.tableau.specs.declared.walks.Outcome.{Outcome}
-use Rattle.tableau.specs.declared.walks.Outcome.TheVariants.{Finished, Running, NoRoom}
-use Rattle.tableau.specs.declared.walks.Walk.{Walk}
+use Rattle.tableau.specs.declared.walks.Stopped.{Stopped}
 
 -- what has been made so far; the item put in last has the highest place
 abbrev pub config_of : Counts → List State → List Arc → List Item → Config
@@ -32,11 +30,10 @@ space_of ss xs ps = record { states = min MOST_STATES (length ss); arcs = min MO
 abbrev pub room_in : Space → Room
 room_in s = record { steps = MOST_STEPS; states = s.states; arcs = s.arcs; pending = s.pending }
 
--- the answer that stands for an outcome
-abbrev pub answer_of : Outcome → Progressed
-answer_of Finished = finished
-answer_of Running = running
-answer_of (NoRoom l) = no_room (lacking_of l)
+-- the answer where the steps have stopped for this lack, or for none, with so many items pending
+abbrev pub answer_at : Option Lack → ℕ → Progressed
+answer_at (Some l) pending = no_room (lacking_of l)
+answer_at None pending = cond (pending == 0) finished running
 
 -- the entries beyond the counts are as they were, and the lists as long; of the pending items only the length
 pub record Kept (r : Counts) (ss : List State) (xs : List Arc) (ps : List Item) (ss' : List State) (xs' : List Arc) (ps' : List Item) : Type 0 where
@@ -67,19 +64,8 @@ abbrev pub Turned : List CoreNode → Space → Counts → List State → List A
 Turned sheet s c ss xs ps (Ok r) ss' xs' ps' = Went sheet s c ss xs ps r ss' xs' ps'
 Turned sheet s c ss xs ps (Err l) ss' xs' ps' = Stuck sheet s c ss xs ps l ss' xs' ps'
 
--- a finished one has no item pending
-abbrev pub Ended : Outcome → Counts → Type 0
-Ended Finished c = c.pending ≡ 0
-Ended Running c = Unit {0}
-Ended (NoRoom l) c = Unit {0}
-
--- where the allowance is spent
-abbrev pub spent_at : Counts → Walk
-spent_at c = record { counts = c; outcome = cond (c.pending == 0) Finished Running }
-
 -- as many steps as are allowed
-pub record Walked (sheet : List CoreNode) (c : Counts) (ss : List State) (xs : List Arc) (ps : List Item) (allowance : ℕ) (r : Walk) (ss' : List State) (xs' : List Arc) (ps' : List Item) : Type 0 where
-  pub advanced : ◌≡◌ {A = Advanced} (record { config = config_of r.counts ss' xs' ps'; answer = answer_of r.outcome }) (advance sheet (room_in (space_of ss xs ps)) allowance (config_of c ss xs ps))
+pub record Walked (sheet : List CoreNode) (c : Counts) (ss : List State) (xs : List Arc) (ps : List Item) (allowance : ℕ) (r : Stopped) (ss' : List State) (xs' : List Arc) (ps' : List Item) : Type 0 where
+  pub advanced : ◌≡◌ {A = Advanced} (record { config = config_of r.counts ss' xs' ps'; answer = answer_at r.lack r.counts.pending }) (advance sheet (room_in (space_of ss xs ps)) allowance (config_of c ss xs ps))
   pub kept : Kept r.counts ss xs ps ss' xs' ps'
   pub inside : Within r.counts (space_of ss xs ps)
-  pub ended : Ended r.outcome r.counts

@@ -2,10 +2,10 @@
 ghost use Rattle.std.specs.Prelude.{◌≡◌, ℕ, ◌<◌, ◌≤◌, ◌++◌, length, drop};
 ghost use Rattle.tableau.specs.Beginning.{first_item, begins, Begins};
 
-use crate::fault::{BeginFault, LentList, ShortFault};
-use crate::gathers::count_untils;
+use crate::fault::{BeginFault, LentList, check_length};
 use crate::limits::MOST_UNTILS;
-use crate::translation::Running;
+use crate::sheets::Sheet;
+use crate::translation::{Running, Totals};
 use automata::items::Item;
 use automata::nodes::{CoreNode, CoreSet};
 use coreform::form::forming::core_form;
@@ -21,23 +21,14 @@ fn first_item(root: u8) -> Item
     Item {
         source: 0,
         new,
-        old: CoreSet::default(),
-        next: CoreSet::default(),
+        ..Item::default()
     }
 }
 
-// Writes the nodes on the sheet, and leaves what stands after them.
-fn copy(sheet: &mut [CoreNode], nodes: &[CoreNode])
-    requires { length nodes.now ≤ length sheet.old }
-    ensures { sheet.new ≡ nodes.now ++ drop (length nodes.now) sheet.old }
-{
-    for k in 0..nodes.len() {
-        sheet[k] = nodes[k];
-    }
-}
-
-// Begins the translation of the rule at a place: its core form goes on the sheet, and one item into
-// the pending list.
+/// Begins the translation of the rule at a place: its core form goes on the sheet, and one item into
+/// the pending list. Refused are, in this order, a place that is not in the book (9), a core form of
+/// over 64 nodes (7) or over 16 untils (8), a sheet that is shorter than the core form and an empty
+/// pending list (11). A refused call changes nothing. See docs/TRANSLATION.md.
 pub fn begin(
     book: &Book,
     place: Place,
@@ -48,30 +39,20 @@ pub fn begin(
 {
     let form = core_form(book, place)?;
     let nodes = form.nodes();
-    let untils = count_untils(nodes);
+    let untils = Sheet { nodes }.count_untils();
     if untils > MOST_UNTILS {
         return Err(BeginFault::TooManyUntils(untils));
     }
-    if sheet.len() < nodes.len() {
-        return Err(BeginFault::Short(ShortFault {
-            list: LentList::Sheet,
-            needed: nodes.len(),
-        }));
-    }
-    if pending.is_empty() {
-        return Err(BeginFault::Short(ShortFault {
-            list: LentList::Pending,
-            needed: 1,
-        }));
-    }
-    copy(sheet, nodes);
+    check_length(LentList::Sheet, sheet.len(), nodes.len())?;
+    check_length(LentList::Pending, pending.len(), 1)?;
+    sheet[..nodes.len()].copy_from_slice(nodes);
     pending[0] = first_item(form.root());
-    Ok(Running {
+    let totals = Totals {
         cores: nodes.len() as u8,
         sets: untils,
         steps: 0,
         states: 0,
         arcs: 0,
-        pending: 1,
-    })
+    };
+    Ok(Running { totals, pending: 1 })
 }

@@ -1,11 +1,13 @@
 // Why begin or step is refused.
 ghost use Rattle.std.specs.Prelude.{◌≡◌};
-ghost use Rattle.tableau.specs.Refusals.{step_number, begin_number};
+ghost use Rattle.std.specs.Result.{result_err};
+ghost use Rattle.tableau.specs.Refusals.{short_of, step_number, begin_number};
 ghost use Rattle.tableau.specs.declared.fault.BeginFault.TheVariants.{Form as NoForm, Short as TooShort};
 
 use coreform::form::FormFault;
 
-// A list that the caller lends.
+/// A list that the caller lends.
+// Kept: a rule of the project: each crate names the lists that its own calls are lent, here four.
 #[derive(Clone, Copy, PartialEq, Eq, Debug)]
 pub enum LentList {
     Sheet,
@@ -14,7 +16,8 @@ pub enum LentList {
     Pending,
 }
 
-// This list is shorter than the length that it needs: what the translation uses of it.
+/// Refusal 11: this list is shorter than the length that it needs, which is what the translation uses
+/// of it. See docs/REFUSALS.md.
 #[derive(Clone, Copy, PartialEq, Eq, Debug)]
 pub struct ShortFault {
     pub list: LentList,
@@ -22,7 +25,8 @@ pub struct ShortFault {
 }
 
 impl ShortFault {
-    // The number of the refusal.
+    /// The number of the refusal: 11.
+    // Kept: a public promise, and docs/REFUSALS.md lists the numbers.
     pub fn number(&self) -> u8
         ensures { result ≡ step_number self.now }
     {
@@ -30,14 +34,25 @@ impl ShortFault {
     }
 }
 
-// Why there is no translation of the rule at a place.
+// Refuses a list that is shorter than needed.
+pub(crate) fn check_length(list: LentList, length: usize, needed: usize) -> Result<(), ShortFault>
+    ensures { result_err result ≡ short_of list length needed }
+{
+    if length < needed {
+        Err(ShortFault { list, needed })
+    } else {
+        Ok(())
+    }
+}
+
+/// Why there is no translation of the rule at a place. See docs/REFUSALS.md.
 #[derive(Clone, Copy, PartialEq, Eq, Debug)]
 pub enum BeginFault {
-    // nothing is entered at the place, or the core form has over 64 nodes
+    /// 9, nothing is entered at the place, or 7, the core form has over 64 nodes
     Form(FormFault),
-    // the core form has this many untils, over 16
+    /// 8: the core form has this many untils, over 16
     TooManyUntils(u8),
-    // a list is shorter than needed
+    /// 11: a list is shorter than needed
     Short(ShortFault),
 }
 
@@ -58,7 +73,8 @@ impl From<ShortFault> for BeginFault {
 }
 
 impl BeginFault {
-    // The number of the refusal.
+    /// The number of the refusal: 7, 8, 9 or 11.
+    // Kept: a public promise, and docs/REFUSALS.md lists the numbers.
     pub fn number(&self) -> u8
         ensures { result ≡ begin_number self.now }
     {

@@ -3,7 +3,6 @@
 
 pub mod beginning;
 pub mod fault;
-pub(crate) mod finds;
 pub(crate) mod gathers;
 pub mod limits;
 pub(crate) mod plans;
@@ -18,7 +17,7 @@ pub(crate) mod writes;
 #[cfg(test)]
 mod tests {
     use crate::stepping::step;
-    use crate::translation::{Finished, Lack, Progress, Running, StepRefused};
+    use crate::translation::{Lack, Progress, Running, StepRefused, Totals};
     use automata::items::{Arc, Item, State};
     use automata::nodes::{CoreNode, CoreSet};
     use std::alloc::AllocError;
@@ -34,35 +33,16 @@ mod tests {
         }
     }
 
-    fn numbers(t: Running) -> (u32, u16, u16) {
-        let Running {
-            cores: _,
-            sets: _,
-            steps,
-            states,
-            arcs,
-            pending: _,
-        } = t;
-        (steps, states, arcs)
-    }
-
-    fn final_numbers(t: Finished) -> (u32, u16, u16) {
-        let Finished {
-            cores: _,
-            sets: _,
-            steps,
-            states,
-            arcs,
-        } = t;
-        (steps, states, arcs)
+    fn numbers(t: Totals) -> (u32, u16, u16) {
+        (t.steps(), t.states(), t.arcs())
     }
 
     // How a call ended: 0 to 2, or 11 for a refusal, and the steps, states and arcs.
     fn ending(p: Progress) -> (u8, (u32, u16, u16)) {
         match p {
-            Progress::Finished(t) => (0, final_numbers(t)),
-            Progress::Running(t) => (1, numbers(t)),
-            Progress::NoRoom(t, _) => (2, numbers(t)),
+            Progress::Finished(t) => (0, numbers(t.totals())),
+            Progress::Running(t) => (1, numbers(t.totals())),
+            Progress::NoRoom(t, _) => (2, numbers(t.totals())),
         }
     }
 
@@ -71,7 +51,7 @@ mod tests {
             Ok(p) => ending(p),
             Err(refused) => {
                 let StepRefused { translation, fault } = refused;
-                (fault.number(), numbers(translation))
+                (fault.number(), numbers(translation.totals()))
             }
         }
     }
@@ -88,30 +68,30 @@ mod tests {
         for _ in 0..100 {
             match step(t, sheet, states, arcs, pending, 2) {
                 Ok(p) => match p {
-                    Progress::Finished(f) => return (0, final_numbers(f)),
+                    Progress::Finished(f) => return (0, numbers(f.totals())),
                     Progress::Running(r) => {
                         t = r;
                     }
-                    Progress::NoRoom(r, _) => return (2, numbers(r)),
+                    Progress::NoRoom(r, _) => return (2, numbers(r.totals())),
                 },
                 Err(refused) => {
                     let StepRefused { translation, fault } = refused;
-                    return (fault.number(), numbers(translation));
+                    return (fault.number(), numbers(translation.totals()));
                 }
             }
         }
-        (1, numbers(t))
+        (1, numbers(t.totals()))
     }
 
     fn begun() -> Running {
-        Running {
+        let totals = Totals {
             cores: 1,
             sets: 0,
             steps: 0,
             states: 0,
             arcs: 0,
-            pending: 1,
-        }
+        };
+        Running { totals, pending: 1 }
     }
 
     #[test]
@@ -175,14 +155,14 @@ mod tests {
     }
 
     fn until_begun() -> Running {
-        Running {
+        let totals = Totals {
             cores: 3,
             sets: 1,
             steps: 0,
             states: 0,
             arcs: 0,
-            pending: 1,
-        }
+        };
+        Running { totals, pending: 1 }
     }
 
     // p until q, and the marks of its states.

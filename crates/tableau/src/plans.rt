@@ -1,19 +1,19 @@
 // What one step adds, found out before anything is written.
 ghost use Rattle.std.specs.Prelude.{◌≡◌, ◌<◌, ◌≤◌, length};
+ghost use Rattle.std.specs.List.{position};
 ghost use Rattle.automata.specs.Sets.{lowest as lowest_of};
-ghost use Rattle.automata.specs.Steps.{drops as is_dropped, item as item_of};
+ghost use Rattle.automata.specs.Steps.{drops as is_dropped, item as item_of, split, taken};
 ghost use Rattle.tableau.specs.declared.limits.TheConstants.{MOST_STATES};
-ghost use Rattle.tableau.specs.Nodes.{Sound};
-ghost use Rattle.tableau.specs.Plans.{split_plan, taken_plan, join_plan, settle_plan, planned};
+ghost use Rattle.tableau.specs.Nodes.{is_state};
+ghost use Rattle.tableau.specs.Plans.{Puts, DoesStep, join_plan, settle_plan};
 
-use crate::finds::{arc_among, states_before};
-use crate::gathers::{off_signals, on_signals, state_of};
 use crate::sets::{contains, insert, join, lowest, remove};
-use crate::sheets::node_at;
+use crate::sheets::{Checked, Sheet};
 use automata::items::{Arc, Item, State};
 use automata::nodes::{CoreNode, CoreSet};
 
 // What joins the lists in the place of the item that was put in last.
+// Kept: the new form is no plainer: the variants are data, which the methods match.
 #[derive(Clone, Copy)]
 pub(crate) enum Plan {
     Nothing,
@@ -25,21 +25,20 @@ pub(crate) enum Plan {
 }
 
 // Whether an item is dropped at this node: it is false, or a literal whose opposite is in Old.
-fn drops(sheet: &[CoreNode], old: CoreSet, node: CoreNode) -> bool
-    requires { (length sheet.now ≤ 64) × (Sound node) }
-    ensures { result ≡ is_dropped sheet.now old node }
+fn drops(sheet: &Sheet<'_>, old: CoreSet, read: Checked) -> bool
+    ensures { result ≡ is_dropped sheet.now.nodes.now old read.node }
 {
-    match node {
+    match read.node {
         CoreNode::False => true,
         CoreNode::On(s) => contains(
             CoreSet {
-                bits: off_signals(sheet, old),
+                bits: sheet.off_signals(old),
             },
             s,
         ),
         CoreNode::Off(s) => contains(
             CoreSet {
-                bits: on_signals(sheet, old),
+                bits: sheet.on_signals(old),
             },
             s,
         ),
@@ -51,23 +50,18 @@ fn drops(sheet: &[CoreNode], old: CoreSet, node: CoreNode) -> bool
 fn with(item: Item, new: CoreSet, next: CoreSet) -> Item
     ensures { result ≡ item_of item.source new item.old next }
 {
-    Item {
-        source: item.source,
-        new,
-        old: item.old,
-        next,
-    }
+    Item { new, next, ..item }
 }
 
 // The items that take the place of an item from which node k was taken.
-fn split(node: CoreNode, k: u8, item: Item) -> Plan
-    requires { (Sound node) × (k < 64) }
-    ensures { result ≡ split_plan node k item.source item.new item.old item.next }
+fn split(read: Checked, k: u8, item: Item) -> Plan
+    requires { k < 64 }
+    ensures { Puts (split read.node k item.source item.new item.old item.next) result }
 {
     let new = item.new;
     let old = item.old;
     let next = item.next;
-    match node {
+    match read.node {
         CoreNode::False => Plan::Nothing,
         CoreNode::True | CoreNode::On(_) | CoreNode::Off(_) => Plan::One(item),
         CoreNode::Next(a) => Plan::One(with(item, new, insert(next, a))),
@@ -88,22 +82,21 @@ fn split(node: CoreNode, k: u8, item: Item) -> Plan
 }
 
 // The lowest number leaves New.
-fn plan_taken(sheet: &[CoreNode], item: Item) -> Plan
-    requires { (length sheet.now ≤ 64) × (0 < item.new.bits) }
-    ensures { result ≡ taken_plan sheet.now (lowest_of item.new) item }
+fn plan_taken(sheet: &Sheet<'_>, item: Item) -> Plan
+    requires { 0 < item.new.bits }
+    ensures { Puts (taken sheet.now.nodes.now (lowest_of item.new) item) result }
 {
     let k = lowest(item.new);
-    let node = node_at(sheet, k);
-    if drops(sheet, item.old, node) {
+    let read = sheet.node_at(k);
+    if drops(sheet, item.old, read) {
         Plan::Nothing
     } else {
         let rest = Item {
-            source: item.source,
             new: remove(item.new, k),
             old: insert(item.old, k),
-            next: item.next,
+            ..item
         };
-        split(node, k, rest)
+        split(read, k, rest)
     }
 }
 
@@ -111,52 +104,53 @@ fn plan_taken(sheet: &[CoreNode], item: Item) -> Plan
 fn plan_join(count: usize, arc: Arc, arcs: &[Arc]) -> Plan
     ensures { result ≡ join_plan count arc arcs.now }
 {
-    if arc.from as usize <= count && arc_among(arcs, arc) {
+    if arc.from as usize <= count && arcs.contains(&arc) {
         Plan::Nothing
     } else {
         Plan::Join(arc)
     }
 }
 
-// New is empty: a state has this Old and Next, or a new one is made.
-fn plan_settled(sheet: &[CoreNode], states: &[State], arcs: &[Arc], item: Item) -> Plan
-    requires { (length sheet.now ≤ 64) × (length states.now ≤ MOST_STATES) }
-    ensures { result ≡ settle_plan sheet.now states.now arcs.now item }
+// The place of the first state with this Old and Next.
+fn state_with(states: &[State], old: CoreSet, next: CoreSet) -> Option<usize>
+    ensures { result ≡ position (λ s. is_state s old next) states.now }
 {
-    let before = states_before(states, item.old, item.next);
-    if before < states.len() {
-        plan_join(
-            states.len(),
-            Arc {
-                from: item.source,
-                to: before as u32 + 1,
-            },
-            arcs,
-        )
-    } else {
-        let to = states.len() as u32 + 1;
-        let made = state_of(sheet, item.old, item.next);
-        let onward = Item {
-            source: to,
-            new: item.next,
-            old: CoreSet::default(),
-            next: CoreSet::default(),
-        };
-        Plan::Make(
-            made,
-            Arc {
-                from: item.source,
-                to,
-            },
-            onward,
-        )
+    states
+        .iter()
+        .position(|state| state.old == old && state.next == next)
+}
+
+// New is empty: a state has this Old and Next, or a new one is made.
+fn plan_settled(sheet: &Sheet<'_>, states: &[State], arcs: &[Arc], item: Item) -> Plan
+    requires { length states.now ≤ MOST_STATES }
+    ensures { result ≡ settle_plan sheet.now.nodes.now states.now arcs.now item }
+{
+    let from = item.source;
+    match state_with(states, item.old, item.next) {
+        Some(before) => {
+            let to = before as u32 + 1;
+            plan_join(states.len(), Arc { from, to }, arcs)
+        }
+        None => {
+            let to = states.len() as u32 + 1;
+            let onward = Item {
+                source: to,
+                new: item.next,
+                ..Item::default()
+            };
+            Plan::Make(
+                sheet.state_of(item.old, item.next),
+                Arc { from, to },
+                onward,
+            )
+        }
     }
 }
 
 // The plan for the item that was put in last, by the states and arcs there are.
-pub(crate) fn plan_for(sheet: &[CoreNode], states: &[State], arcs: &[Arc], item: Item) -> Plan
-    requires { (length sheet.now ≤ 64) × (length states.now ≤ MOST_STATES) }
-    ensures { result ≡ planned sheet.now states.now arcs.now item }
+pub(crate) fn plan_for(sheet: &Sheet<'_>, states: &[State], arcs: &[Arc], item: Item) -> Plan
+    requires { length states.now ≤ MOST_STATES }
+    ensures { DoesStep sheet.now.nodes.now states.now arcs.now item result }
 {
     if item.new.bits == 0 {
         plan_settled(sheet, states, arcs, item)

@@ -1,5 +1,6 @@
 // Counts of what is in use, and the room there is.
 ghost use Rattle.std.specs.Prelude.{◌≡◌, ◌<◌, ◌≤◌, length};
+ghost use Rattle.std.specs.Result.{result_err};
 ghost use Rattle.tableau.specs.Plans.{new_states, new_arcs, new_items};
 ghost use Rattle.tableau.specs.Rooms.{lack_of, Within};
 
@@ -23,50 +24,56 @@ pub(crate) struct Space {
     pub pending: usize,
 }
 
-fn new_states(plan: Plan) -> usize
-    ensures { (result ≡ length (new_states plan)) × (result ≤ 2) }
-{
-    match plan {
-        Plan::Make(_, _, _) => 1,
-        _ => 0,
+impl Plan {
+    // How many states it adds.
+    pub(crate) fn new_states(&self) -> usize
+        ensures count { result ≡ length (new_states self.now) }
+        ensures few { result ≤ 2 }
+    {
+        match self {
+            Plan::Make(_, _, _) => 1,
+            _ => 0,
+        }
+    }
+
+    // How many arcs it adds.
+    pub(crate) fn new_arcs(&self) -> usize
+        ensures count { result ≡ length (new_arcs self.now) }
+        ensures few { result ≤ 2 }
+    {
+        match self {
+            Plan::Join(_) | Plan::Make(_, _, _) => 1,
+            _ => 0,
+        }
+    }
+
+    // How many items it puts in the place of the one taken.
+    pub(crate) fn new_items(&self) -> usize
+        ensures count { result ≡ length (new_items self.now) }
+        ensures few { result ≤ 2 }
+    {
+        match self {
+            Plan::One(_) | Plan::Make(_, _, _) => 1,
+            Plan::Two(_, _) => 2,
+            _ => 0,
+        }
     }
 }
 
-fn new_arcs(plan: Plan) -> usize
-    ensures { (result ≡ length (new_arcs plan)) × (result ≤ 2) }
-{
-    match plan {
-        Plan::Join(_) => 1,
-        Plan::Make(_, _, _) => 1,
-        _ => 0,
-    }
-}
-
-fn new_items(plan: Plan) -> usize
-    ensures { (result ≡ length (new_items plan)) × (result ≤ 2) }
-{
-    match plan {
-        Plan::One(_) => 1,
-        Plan::Two(_, _) => 2,
-        Plan::Make(_, _, _) => 1,
-        _ => 0,
-    }
-}
-
-// The first of the four for which there is no room.
-pub(crate) fn lacking(plan: Plan, counts: Counts, space: Space) -> Option<Lack>
+// Refuses a plan for which there is no room, by the first of the four that lacks.
+pub(crate) fn check_room(plan: &Plan, counts: Counts, space: Space) -> Result<(), Lack>
     requires { (Within counts space) × (0 < counts.pending) }
-    ensures { result ≡ lack_of plan counts space }
+    ensures { result_err result ≡ lack_of plan.now counts space }
 {
     if counts.steps == MOST_STEPS {
-        Some(Lack::Steps)
-    } else if counts.states + new_states(plan) > space.states {
-        Some(Lack::States)
-    } else if counts.arcs + new_arcs(plan) > space.arcs {
-        Some(Lack::Arcs)
-    } else if counts.pending - 1 + new_items(plan) > space.pending {
-        Some(Lack::Pending)
+        Err(Lack::Steps)
+    } else if counts.states + plan.new_states() > space.states {
+        Err(Lack::States)
+    } else if counts.arcs + plan.new_arcs() > space.arcs {
+        Err(Lack::Arcs)
+    } else if counts.pending - 1 + plan.new_items() > space.pending {
+        Err(Lack::Pending)
     } else {
-        None
+        Ok(())
     }
 }

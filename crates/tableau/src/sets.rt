@@ -1,9 +1,12 @@
 // Sets of core numbers.
+// Kept: a rule of the project: no public function has a `requires`, and methods on another crate's type would be public.
 ghost use Rattle.std.specs.Prelude.{◌≡◌, ◌<◌};
 ghost use Rattle.automata.specs.Sets.{has, insert as inserted, remove as removed, lowest as lowest_of, join as joined};
 
 use automata::nodes::CoreSet;
 
+// Kept: the new form is no plainer: judging's `is_on` asks its own words, and no crate below both has any.
+#[tactic(auto, using(std::proofs::lemmas::Nat::and_mask))]
 pub(crate) fn contains(members: CoreSet, k: u8) -> bool
     requires { k < 64 }
     ensures { result ≡ has members k }

@@ -1,9 +1,24 @@
 // Reading a sheet of at most 64 core nodes.
-ghost use Rattle.std.specs.Prelude.{◌≡◌, ◌<◌, ◌≤◌, length};
-ghost use Rattle.automata.specs.Steps.{checked, node_on};
-ghost use Rattle.tableau.specs.Nodes.{Sound, both_below, sound_on};
+ghost use Rattle.std.specs.Prelude.{◌≡◌, ◌≤◌, true, length};
+ghost use Rattle.automata.specs.Steps.{node_on};
+ghost use Rattle.tableau.specs.Nodes.{both_below, sound_on};
+ghost use Rattle.tableau.specs.declared.limits.TheConstants.{MOST_CORES};
 
 use automata::nodes::CoreNode;
+
+// The nodes of a sheet.
+#[derive(Clone, Copy)]
+pub(crate) struct Sheet<'a> {
+    pub nodes: &'a [CoreNode],
+    ghost few: { length nodes.now ≤ MOST_CORES },
+}
+
+// A node that names only numbers and signals below 64.
+#[derive(Clone, Copy)]
+pub(crate) struct Checked {
+    pub node: CoreNode,
+    ghost sound: { sound_on MOST_CORES node ≡ true },
+}
 
 fn both_below(n: usize, a: u8, b: u8) -> bool
     ensures { result ≡ both_below n a b }
@@ -16,40 +31,26 @@ fn is_sound(n: usize, node: CoreNode) -> bool
     ensures { result ≡ sound_on n node }
 {
     match node {
-        CoreNode::True => true,
-        CoreNode::False => true,
-        CoreNode::On(s) => s < 64,
-        CoreNode::Off(s) => s < 64,
+        CoreNode::True | CoreNode::False => true,
+        CoreNode::On(s) | CoreNode::Off(s) => s < 64,
         CoreNode::Next(a) => (a as usize) < n,
-        CoreNode::And(a, b) => both_below(n, a, b),
-        CoreNode::Or(a, b) => both_below(n, a, b),
-        CoreNode::Until(a, b) => both_below(n, a, b),
-        CoreNode::Release(a, b) => both_below(n, a, b),
+        CoreNode::And(a, b)
+        | CoreNode::Or(a, b)
+        | CoreNode::Until(a, b)
+        | CoreNode::Release(a, b) => both_below(n, a, b),
     }
 }
 
-// The node, or false if it names what is not there.
-fn check(n: usize, node: CoreNode) -> CoreNode
-    requires { n ≤ 64 }
-    ensures node { result ≡ checked n node }
-    ensures sound { Sound result }
-{
-    if is_sound(n, node) {
-        node
-    } else {
-        CoreNode::False
-    }
-}
-
-// The node of a number: one that is not on the sheet is false.
-pub(crate) fn node_at(sheet: &[CoreNode], k: u8) -> CoreNode
-    requires { length sheet.now ≤ 64 }
-    ensures node { result ≡ node_on sheet.now k }
-    ensures sound { Sound result }
-{
-    if (k as usize) < sheet.len() {
-        check(sheet.len(), sheet[k as usize])
-    } else {
-        CoreNode::False
+impl Sheet<'_> {
+    // The node of a number: false if it is not on the sheet, or names what is not there.
+    pub(crate) fn node_at(&self, k: u8) -> Checked
+        ensures { result.node ≡ node_on self.now.nodes.now k }
+    {
+        match self.nodes.get(k as usize) {
+            Some(node) if is_sound(self.nodes.len(), *node) => Checked { node: *node },
+            _ => Checked {
+                node: CoreNode::False,
+            },
+        }
     }
 }

@@ -1,90 +1,63 @@
 // The steps of a translation.
 ghost use Rattle.std.specs.Prelude.{◌≡◌, ◌≤◌};
-ghost use Rattle.tableau.specs.declared.limits.TheConstants.{MOST_CORES, MOST_STATES, MOST_ARCS, MOST_PENDING};
-ghost use Rattle.tableau.specs.Ends.{standing_of, walk_told};
+ghost use Rattle.std.specs.Result.{result_err};
+ghost use Rattle.tableau.specs.declared.limits.TheConstants.{MOST_STATES, MOST_ARCS, MOST_PENDING};
+ghost use Rattle.tableau.specs.Ends.{stopped_told};
 ghost use Rattle.tableau.specs.Stepping.{lists, standing, short_list, progress_told, told, Steps};
-ghost use Rattle.tableau.specs.Walks.{Ended};
 
-use crate::fault::{LentList, ShortFault};
+use crate::fault::{LentList, ShortFault, check_length};
 use crate::rooms::Counts;
-use crate::translation::{Finished, Progress, Running, StepRefused};
-use crate::walks::{Outcome, Walk, advance};
+use crate::sheets::Sheet;
+use crate::translation::{Finished, Progress, Running, StepRefused, Totals};
+use crate::walks::{Stopped, advance};
 use automata::items::{Arc, Item, State};
 use automata::nodes::CoreNode;
 
-// The first list that is shorter than what the translation uses of it.
-fn short(
+// Refuses the first list that is shorter than what the translation uses of it.
+fn check_lists(
     translation: &Running,
     sheet: &[CoreNode],
     states: &[State],
     arcs: &[Arc],
     pending: &[Item],
-) -> Option<ShortFault>
-    ensures { result ≡ short_list (standing translation.now) (lists sheet.now states.now arcs.now pending.now) }
+) -> Result<(), ShortFault>
+    ensures { result_err result ≡ short_list (standing translation.now) (lists sheet.now states.now arcs.now pending.now) }
 {
-    if sheet.len() < translation.cores as usize {
-        Some(ShortFault {
-            list: LentList::Sheet,
-            needed: translation.cores as usize,
-        })
-    } else if states.len() < translation.states as usize {
-        Some(ShortFault {
-            list: LentList::States,
-            needed: translation.states as usize,
-        })
-    } else if arcs.len() < translation.arcs as usize {
-        Some(ShortFault {
-            list: LentList::Arcs,
-            needed: translation.arcs as usize,
-        })
-    } else if pending.len() < translation.pending as usize {
-        Some(ShortFault {
-            list: LentList::Pending,
-            needed: translation.pending as usize,
-        })
-    } else {
-        None
-    }
+    let totals = translation.totals;
+    check_length(LentList::Sheet, sheet.len(), totals.cores as usize)?;
+    check_length(LentList::States, states.len(), totals.states as usize)?;
+    check_length(LentList::Arcs, arcs.len(), totals.arcs as usize)?;
+    check_length(
+        LentList::Pending,
+        pending.len(),
+        translation.pending as usize,
+    )
 }
 
-// A translation that goes on from these counts.
-fn resumed(cores: u8, sets: u8, counts: Counts) -> Running
-    requires cores { cores ≤ MOST_CORES }
-    requires few { (counts.states ≤ MOST_STATES) × ((counts.arcs ≤ MOST_ARCS) × (counts.pending ≤ MOST_PENDING)) }
-    ensures { standing result ≡ standing_of cores sets counts }
+// What the steps have come to.
+fn progress(before: Totals, stopped: Stopped) -> Progress
+    requires { (stopped.counts.states ≤ MOST_STATES) × ((stopped.counts.arcs ≤ MOST_ARCS) × (stopped.counts.pending ≤ MOST_PENDING)) }
+    ensures { progress_told result ≡ stopped_told before.cores before.sets stopped }
 {
-    Running {
-        cores,
-        sets,
+    let counts = stopped.counts;
+    let pending = counts.pending as u16;
+    let totals = Totals {
+        cores: before.cores,
+        sets: before.sets,
         steps: counts.steps,
         states: counts.states as u16,
         arcs: counts.arcs as u16,
-        pending: counts.pending as u16,
+    };
+    match stopped.lack {
+        Some(lack) => Progress::NoRoom(Running { totals, pending }, lack),
+        None if pending == 0 => Progress::Finished(Finished { totals }),
+        None => Progress::Running(Running { totals, pending }),
     }
 }
 
-// Where the steps have come to.
-fn progress(cores: u8, sets: u8, walk: Walk) -> Progress
-    requires cores { cores ≤ MOST_CORES }
-    requires few { (walk.counts.states ≤ MOST_STATES) × ((walk.counts.arcs ≤ MOST_ARCS) × (walk.counts.pending ≤ MOST_PENDING)) }
-    requires ended { Ended walk.outcome walk.counts }
-    ensures { progress_told result ≡ walk_told cores sets walk }
-{
-    let counts = walk.counts;
-    match walk.outcome {
-        Outcome::Finished => Progress::Finished(Finished {
-            cores,
-            sets,
-            steps: counts.steps,
-            states: counts.states as u16,
-            arcs: counts.arcs as u16,
-        }),
-        Outcome::Running => Progress::Running(resumed(cores, sets, counts)),
-        Outcome::NoRoom(lack) => Progress::NoRoom(resumed(cores, sets, counts), lack),
-    }
-}
-
-// As many steps as are allowed, until the translation is finished or there is no room for the next.
+/// Makes as many steps as are allowed, 0 to 65,535, until the translation is finished or there is no
+/// room for the next. A list that is shorter than what the translation uses of it is refused (11): then
+/// nothing changes, and the translation comes back. See docs/TRANSLATION.md.
 pub fn step(
     translation: Running,
     sheet: &[CoreNode],
@@ -95,26 +68,24 @@ pub fn step(
 ) -> Result<Progress, StepRefused>
     ensures { Steps (standing translation) (lists sheet.now states.old arcs.old pending.old) allowance (told result) (lists sheet.now states.new arcs.new pending.new) }
 {
-    match short(&translation, sheet, states, arcs, pending) {
-        Some(fault) => Err(StepRefused { translation, fault }),
-        None => {
+    match check_lists(&translation, sheet, states, arcs, pending) {
+        Err(fault) => Err(StepRefused { translation, fault }),
+        Ok(()) => {
             let Running {
-                cores,
-                sets,
-                steps,
-                states: made,
-                arcs: joined,
+                totals,
                 pending: waiting,
             } = translation;
-            let used = cores as usize;
+            let used = Sheet {
+                nodes: &sheet[..totals.cores as usize],
+            };
             let start = Counts {
-                steps,
-                states: made as usize,
-                arcs: joined as usize,
+                steps: totals.steps,
+                states: totals.states as usize,
+                arcs: totals.arcs as usize,
                 pending: waiting as usize,
             };
-            let walk = advance(start, &sheet[0..used], states, arcs, pending, allowance);
-            Ok(progress(cores, sets, walk))
+            let stopped = advance(start, &used, states, arcs, pending, allowance);
+            Ok(progress(totals, stopped))
         }
     }
 }

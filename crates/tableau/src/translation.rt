@@ -7,34 +7,36 @@ use crate::fault::ShortFault;
 use std::fmt;
 
 pub mod ended;
+pub mod numbers;
 pub mod underway;
 
-// One that is still running. It is handed on from call to call, and cannot be copied.
-#[derive(Drop)]
-pub struct Running {
+/// What is told of each translation: the nodes of its core form and its mark sets, the steps made
+/// since it began, and how many entries of the lists of states and of arcs are in use.
+#[derive(Clone, Copy)]
+pub struct Totals {
     pub(crate) cores: u8,
     pub(crate) sets: u8,
     pub(crate) steps: u32,
     pub(crate) states: u16,
     pub(crate) arcs: u16,
-    pub(crate) pending: u16,
     ghost few_cores: { cores ≤ MOST_CORES },
     ghost few_states: { states ≤ MOST_STATES },
     ghost few_arcs: { arcs ≤ MOST_ARCS },
+}
+
+/// A translation that is still running, with 0 to 1,024 pending items. It is handed on from call to
+/// call, and cannot be copied.
+#[derive(Drop)]
+pub struct Running {
+    pub(crate) totals: Totals,
+    pub(crate) pending: u16,
     ghost few_pending: { pending ≤ MOST_PENDING },
 }
 
-// One whose automaton is made.
+/// A translation whose automaton is made: nothing is pending.
 #[derive(Drop)]
 pub struct Finished {
-    pub(crate) cores: u8,
-    pub(crate) sets: u8,
-    pub(crate) steps: u32,
-    pub(crate) states: u16,
-    pub(crate) arcs: u16,
-    ghost few_cores: { cores ≤ MOST_CORES },
-    ghost few_states: { states ≤ MOST_STATES },
-    ghost few_arcs: { arcs ≤ MOST_ARCS },
+    pub(crate) totals: Totals,
 }
 
 /// What there is no room for: the first of these four. It is printed as `steps`, `states`, `arcs` or `pending`.
@@ -59,15 +61,18 @@ impl fmt::Display for Lack {
     }
 }
 
-// What a call of step comes to.
+/// What a call of step comes to where it is not refused. See docs/TRANSLATION.md.
 #[derive(Drop)]
 pub enum Progress {
+    /// nothing is pending: the states and arcs in use are the automaton
     Finished(Finished),
+    /// the allowance is spent
     Running(Running),
+    /// the next step needs more than there is; the translation as it was before it
     NoRoom(Running, Lack),
 }
 
-// A refused step hands the translation back.
+/// A refused step (11) hands the translation back.
 #[derive(Drop)]
 pub struct StepRefused {
     pub translation: Running,

@@ -1,27 +1,20 @@
 // Step after step, as long as there is room.
 ghost use Rattle.std.specs.Prelude.{◌≡◌, ◌<◌, ◌≤◌, length};
 ghost use Rattle.tableau.specs.Rooms.{Within};
-ghost use Rattle.tableau.specs.Walks.{space_of, spent_at, Turned, Walked};
+ghost use Rattle.tableau.specs.Walks.{space_of, Turned, Walked};
 
 use crate::limits::{MOST_ARCS, MOST_PENDING, MOST_STATES};
 use crate::plans::plan_for;
-use crate::rooms::{Counts, Space, lacking};
+use crate::rooms::{Counts, Space, check_room};
+use crate::sheets::Sheet;
 use crate::translation::Lack;
-use crate::writes::write;
 use automata::items::{Arc, Item, State};
-use automata::nodes::CoreNode;
 
+// Where the steps have stopped, and what there was no room for.
 #[derive(Clone, Copy)]
-pub(crate) enum Outcome {
-    Finished,
-    Running,
-    NoRoom(Lack),
-}
-
-#[derive(Clone, Copy)]
-pub(crate) struct Walk {
+pub(crate) struct Stopped {
     pub counts: Counts,
-    pub outcome: Outcome,
+    pub lack: Option<Lack>,
 }
 
 fn space_in(states: &[State], arcs: &[Arc], pending: &[Item]) -> Space
@@ -35,79 +28,52 @@ fn space_in(states: &[State], arcs: &[Arc], pending: &[Item]) -> Space
 }
 
 // One step: there is a pending item.
+// Kept: the new form is no plainer: with the lists in a type, each call would promise their lengths and their loans.
 fn turn(
     counts: Counts,
     space: Space,
-    sheet: &[CoreNode],
+    sheet: &Sheet<'_>,
     states: &mut [State],
     arcs: &mut [Arc],
     pending: &mut [Item],
 ) -> Result<Counts, Lack>
-    requires sheet { length sheet.now ≤ 64 }
     requires inside { (Within counts space) × (0 < counts.pending) }
     requires lists { (space.states ≤ length states.old) × ((space.arcs ≤ length arcs.old) × (space.pending ≤ length pending.old)) }
-    ensures { Turned sheet.now space counts states.old arcs.old pending.old result states.new arcs.new pending.new }
+    ensures { Turned sheet.now.nodes.now space counts states.old arcs.old pending.old result states.new arcs.new pending.new }
 {
-    let made = counts.states;
-    let joined = counts.arcs;
     let item = pending[counts.pending - 1];
-    let plan = plan_for(sheet, &states[0..made], &arcs[0..joined], item);
-    match lacking(plan, counts, space) {
-        Some(lack) => Err(lack),
-        None => Ok(write(plan, counts, states, arcs, pending)),
-    }
-}
-
-// The allowance is spent.
-fn spent(counts: Counts) -> Walk
-    ensures { result ≡ spent_at counts }
-{
-    if counts.pending == 0 {
-        Walk {
-            counts,
-            outcome: Outcome::Finished,
-        }
-    } else {
-        Walk {
-            counts,
-            outcome: Outcome::Running,
-        }
-    }
+    let plan = plan_for(sheet, &states[..counts.states], &arcs[..counts.arcs], item);
+    check_room(&plan, counts, space)?;
+    Ok(plan.write(counts, states, arcs, pending))
 }
 
 // As many steps as are allowed, until none is pending or there is no room.
 pub(crate) fn advance(
     start: Counts,
-    sheet: &[CoreNode],
+    sheet: &Sheet<'_>,
     states: &mut [State],
     arcs: &mut [Arc],
     pending: &mut [Item],
     allowance: u16,
-) -> Walk
-    requires sheet { length sheet.now ≤ 64 }
+) -> Stopped
     requires inside { Within start (space_of states.old arcs.old pending.old) }
-    ensures { Walked sheet.now start states.old arcs.old pending.old allowance result states.new arcs.new pending.new }
+    ensures { Walked sheet.now.nodes.now start states.old arcs.old pending.old allowance result states.new arcs.new pending.new }
 {
     let space = space_in(states, arcs, pending);
     let mut counts = start;
-    let mut left = allowance;
-    while left > 0 {
+    for _ in 0..allowance {
         if counts.pending == 0 {
-            return Walk {
-                counts,
-                outcome: Outcome::Finished,
-            };
+            return Stopped { counts, lack: None };
         }
         match turn(counts, space, sheet, states, arcs, pending) {
             Ok(after) => {
                 counts = after;
             }
-            Err(lack) => return Walk {
+            Err(lack) => return Stopped {
                 counts,
-                outcome: Outcome::NoRoom(lack),
+                lack: Some(lack),
             },
         }
-        left -= 1;
     }
-    spent(counts)
+    Stopped { counts, lack: None }
 }

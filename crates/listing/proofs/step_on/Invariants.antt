@@ -9,4 +9,4 @@ invariant-loop-finished l =
     × ((answer : Answer) (after : Lists) → StepsOn (standing l.current) (lists l.sheet l.states l.arcs l.pending) answer after → StepsOn (standing l.initial.current) (lists l.initial.sheet l.initial.states l.initial.arcs l.initial.pending) answer after)
 
 abbrev pub decreases-loop-finished : goal.decreases-loop-finished
-decreases-loop-finished l = 4294967295 - l.current.steps
+decreases-loop-finished l = 4294967295 - l.current.totals.steps

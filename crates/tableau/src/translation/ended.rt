@@ -1,34 +1,13 @@
-// What a finished translation tells of its automaton.
+// What is told of a finished translation.
 ghost use Rattle.std.specs.Prelude.{◌≡◌};
 
-use crate::translation::Finished;
+use crate::translation::{Finished, Totals};
 
 impl Finished {
-    // The steps made since the translation began.
-    pub fn steps(&self) -> u32
-        ensures { result ≡ self.now.steps }
+    /// The steps, states, arcs and mark sets so far.
+    pub fn totals(&self) -> Totals
+        ensures { result ≡ self.now.totals }
     {
-        self.steps
-    }
-
-    // How many states there are.
-    pub fn states(&self) -> u16
-        ensures { result ≡ self.now.states }
-    {
-        self.states
-    }
-
-    // How many arcs there are.
-    pub fn arcs(&self) -> u16
-        ensures { result ≡ self.now.arcs }
-    {
-        self.arcs
-    }
-
-    // How many mark sets there are.
-    pub fn mark_sets(&self) -> u8
-        ensures { result ≡ self.now.sets }
-    {
-        self.sets
+        self.totals
     }
 }

@@ -1,6 +1,0 @@
-use Rattle.std.proofs.Common.{◌≡◌}
-use Rattle.automata.specs.Steps.{marks_below, untils_below}
-use Rattle.tableau.proofs.gathers.marks.Given as goal
-
-abbrev pub invariant-loop-k : goal.invariant-loop-k
-invariant-loop-k l = (l.borne ≡ marks_below l.sheet l.old l.k) × (l.untils ≡ untils_below l.sheet l.k)
