@@ -1,9 +1,11 @@
 -- Filling one column of the work list from the last scan back.
 use Rattle.std.proofs.Common.{◌≡◌, ℕ, suc, ◌-◌, ◌*◌, ◌<◌, ◌≤◌, Bool, true, false, not, ◌&&◌, ◌||◌, ltb, ◌≢◌, List, length, drop, Decides, sym, refl, ap, ◌∙◌, subst, arith}
 use Rattle.std.specs.Bool.{beq}
+use Rattle.std.specs.Cmp.{booleans_Decides}
 use Rattle.std.proofs.Math.Decide.{ℕ_discrete}
 use Rattle.std.proofs.lemmas.List.{drop-set-lt, length-set}
-use Rattle.std.proofs.lemmas.Bool.{false≢true, ltb-true, and_parts, cond_both}
+use Rattle.std.proofs.lemmas.Bool.{false≢true, not-false, ltb-true, and_parts, cond_both}
+use Rattle.std.proofs.lemmas.Bool.Decides.{Decides-not}
 use Rattle.rules.specs.Tables.{fits_at}
 use Rattle.rules.specs.declared.node.Node.{Node}
 use Rattle.rules.specs.declared.node.Node.TheVariants.{True, False, Signal, Unary, Binary}
@@ -37,16 +39,10 @@ pass_same (Binary op x y) p h f f' a =
 
 -- the program's test of the value against the denial
 pub told_same : (v d d' : Bool) → not (beq v d) ≡ false → d ≡ d' → v ≡ d'
-told_same true true d' t e = e
-told_same true false d' t e = absurd (false≢true (sym t))
-told_same false true d' t e = absurd (false≢true (sym t))
-told_same false false d' t e = e
+told_same v d d' t e = (booleans_Decides v d).0 (not-false _ t) ∙ e
 
 pub told_other : (v d d' : Bool) → not (beq v d) ≡ true → d ≡ d' → v ≡ d' → ⊥
-told_other true true d' t e z = false≢true t
-told_other true false d' t e z = false≢true (e ∙ sym z)
-told_other false true d' t e z = false≢true (z ∙ sym e)
-told_other false false d' t e z = false≢true t
+told_other v d d' t e z = (Decides-not (beq v d) (booleans_Decides v d)).0 t (z ∙ sym e)
 
 -- what is noted where the value and the denial differ
 denied_noted : (d v : Bool) {A : Type 0} → (v ≡ d → ⊥) → Decides v A → Decides true (Denied d A)

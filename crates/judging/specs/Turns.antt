@@ -17,10 +17,9 @@ unary_hold Always now next = not now
 
 -- it passes on: where it does not hold at a scan, it says there what it says of the next one
 abbrev pub unary_pass : UnaryOp → Bool
-unary_pass Not = false
-unary_pass Next = false
 unary_pass Eventually = true
 unary_pass Always = true
+unary_pass op = false
 
 -- an operator of two operands holds at a scan, in the same sense
 abbrev pub binary_hold : BinaryOp → Bool → Bool → Bool
@@ -36,15 +35,11 @@ binary_hold StrongRelease a b = not b
 
 -- an operator of two operands passes on, in the same sense
 abbrev pub binary_pass : BinaryOp → Bool → Bool
-binary_pass And a = false
-binary_pass Or a = false
-binary_pass Implies a = false
-binary_pass Equivalent a = false
-binary_pass ExclusiveOr a = false
 binary_pass Until a = a
 binary_pass Release a = not a
 binary_pass WeakUntil a = a
 binary_pass StrongRelease a = not a
+binary_pass op a = false
 
 -- the node holds at a scan with this word, where `now` and `next` tell the truths of the places
 abbrev pub node_hold : Node → ℕ → (ℕ → Bool) → (ℕ → Bool) → Bool
@@ -56,55 +51,34 @@ node_hold (Binary op a b) word now next = binary_hold op (now a.index) (now b.in
 
 -- the node passes on what it says of the next scan
 abbrev pub node_pass : Node → (ℕ → Bool) → Bool
-node_pass True now = false
-node_pass False now = false
-node_pass (Signal s) now = false
 node_pass (Unary op a) now = unary_pass op
 node_pass (Binary op a b) now = binary_pass op (now a.index)
+node_pass node now = false
 
 -- a node that passes on for ever is true
 abbrev pub binary_lasts : BinaryOp → Bool
-binary_lasts And = false
-binary_lasts Or = false
-binary_lasts Implies = false
-binary_lasts Equivalent = false
-binary_lasts ExclusiveOr = false
-binary_lasts Until = false
-binary_lasts Release = false
 binary_lasts WeakUntil = true
 binary_lasts StrongRelease = true
+binary_lasts op = false
 
 -- the same for any node
 abbrev pub lasts_of : Node → Bool
-lasts_of True = false
-lasts_of False = false
-lasts_of (Signal s) = false
-lasts_of (Unary op a) = false
 lasts_of (Binary op a b) = binary_lasts op
+lasts_of node = false
 
 -- the node says the denial of what its turns say
 abbrev pub unary_denies : UnaryOp → Bool
-unary_denies Not = false
-unary_denies Next = false
-unary_denies Eventually = false
 unary_denies Always = true
+unary_denies op = false
 
 -- the same for an operator of two operands
 abbrev pub binary_denies : BinaryOp → Bool
-binary_denies And = false
-binary_denies Or = false
-binary_denies Implies = false
-binary_denies Equivalent = false
-binary_denies ExclusiveOr = false
-binary_denies Until = false
 binary_denies Release = true
-binary_denies WeakUntil = false
 binary_denies StrongRelease = true
+binary_denies op = false
 
 -- the same for any node
 abbrev pub denies_of : Node → Bool
-denies_of True = false
-denies_of False = false
-denies_of (Signal s) = false
 denies_of (Unary op a) = unary_denies op
 denies_of (Binary op a b) = binary_denies op
+denies_of node = false

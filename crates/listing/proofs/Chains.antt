@@ -1,34 +1,26 @@
 -- A call of step that answers running has made all its steps, and the lists are long enough for the next.
-use Rattle.std.proofs.Common.{◌≡◌, ℕ, zero, suc, ◌+◌, ◌<◌, ◌≤◌, Bool, true, false, cond, eqb, ltb, List, [], ◌∷◌, ◌++◌, reverse, length, take, Some, None, Ok, Err, Option, Result, sym, refl, ap, ◌∙◌, subst, arith, length-append, length-take, ltb-false, le-ltb}
+use Rattle.std.proofs.Common.{◌≡◌, ℕ, zero, suc, ◌+◌, ◌<◌, ◌≤◌, Bool, true, false, cond, eqb, ltb, List, [], ◌∷◌, ◌++◌, reverse, length, take, Some, None, Err, Option, Result, sym, refl, ap, ◌∙◌, subst, arith, length-append, length-take, ltb-false, le-ltb}
 use Rattle.std.proofs.lemmas.List.{length-reverse}
-use Rattle.automata.specs.Steps.{Config, Room, Progressed, finished, running, no_room, Advanced, settle, step_on, step_with, one_step, within, unless_lacking, unless_finished, advance, Lacking}
+use Rattle.automata.specs.Steps.{Config, Room, Progressed, finished, running, no_room, Advanced, settle, step_on, step_with, one_step, within, unless_lacking, unless_finished, advance}
 use Rattle.automata.specs.Steps.{steps as no_steps}
 use Rattle.automata.specs.declared.items.Item.{Item}
 use Rattle.automata.specs.declared.nodes.CoreNode.{CoreNode}
 use Rattle.rules.specs.declared.node.Node.{Node}
-use Rattle.rules.specs.declared.node.Place.{Place}
-use Rattle.coreform.specs.Forms.{form_at}
-use Rattle.tableau.specs.Beginning.{begun, Begins, refused as refused_begin, begun_at}
-use Rattle.tableau.specs.Stepping.{Lists, lists, Standing, standing_at, advanced_by, room_of, short_list, refusal, progress, Steps, refused, stepped}
+use Rattle.tableau.specs.Stepping.{Lists, Standing, standing_at, advanced_by, room_of, short_list, progress, Steps, refused, stepped}
 use Rattle.tableau.specs.declared.fault.ShortFault.{ShortFault}
 use Rattle.rules.specs.HandedBack.{told, HandsBack}
-use Rattle.rules.specs.Reading.{Reads, wrong_size, refused as refused_at}
+use Rattle.rules.specs.Reading.{Reads}
 use Rattle.rules.specs.declared.reading.ReadFault.{ReadFault}
 use Rattle.rules.specs.declared.reading.ReadFault.TheVariants.{FileSize, Command as AtCommand}
 use Rattle.listing.specs.Listing.{Listing, unread}
+use Rattle.listing.specs.Refusals.{Sized}
+use Rattle.std.proofs.lemmas.Option.{none-some}
 use Rattle.rules.specs.Refusals.{file_fault}
-use Rattle.rules.specs.declared.reading.FileFault.TheVariants.{Size, Command}
 use Rattle.listing.specs.declared.fault.ListFault.{ListFault}
 use Rattle.listing.specs.declared.fault.ListFault.TheVariants.{Read}
 use Rattle.listing.specs.declared.outcome.Listed.{Listed}
 
 -- ---- the steps made
-no_room≢running : (l : Lacking) → no_room l ≡ running → ⊥
-no_room≢running l e = let z : ◌≡◌ {A = ℕ} 0 1 = cc in omega arith
-
-finished≢running : finished ≡ running → ⊥
-finished≢running e = let z : ◌≡◌ {A = ℕ} 0 1 = cc in omega arith
-
 settle_steps : (b : Bool) (sheet : List CoreNode) (i : Item) (rest : List Item) (c : Config) → (settle b sheet i rest c).steps ≡ c.steps + 1
 settle_steps true sheet i rest c = refl
 settle_steps false sheet i rest c = refl
@@ -42,13 +34,13 @@ with_steps sheet [] c h = omega (arith, h)
 with_steps sheet (i ∷ rest) c h = step_steps (eqb i.new.bits 0) sheet i rest c
 
 past_end : (items : List Item) (c : Config) (more : Advanced) → (unless_finished items c more).answer ≡ running → (unless_finished items c more ≡ more) × (0 < length items)
-past_end [] c more e = absurd (finished≢running e)
+past_end [] c more e = cc
 past_end (i ∷ rest) c more e = (refl, omega arith)
 
 past_lack : (p : Progressed) (c : Config) (more : Advanced) → (unless_lacking p c more).answer ≡ running → unless_lacking p c more ≡ more
 past_lack finished c more e = refl
 past_lack running c more e = refl
-past_lack (no_room l) c more e = absurd (no_room≢running l e)
+past_lack (no_room l) c more e = cc
 
 running_steps : (sheet : List CoreNode) (room : Room) (n : ℕ) (c : Config) → (advance sheet room n c).answer ≡ running → (advance sheet room n c).config.steps ≡ c.steps + n
 unfolding advance
@@ -68,7 +60,7 @@ running_steps sheet room (suc n) c e =
 
 -- the first step was within the room
 within_room : (b : Bool) (x : Progressed) (c : Config) (more : Advanced) → (unless_lacking (cond b (no_room no_steps) x) c more).answer ≡ running → b ≡ false
-within_room true x c more e = absurd (no_room≢running no_steps e)
+within_room true x c more e = cc
 within_room false x c more e = refl
 
 running_few : (sheet : List CoreNode) (room : Room) (n : ℕ) (c : Config) → (advance sheet room (suc n) c).answer ≡ running → c.steps < room.steps
@@ -88,9 +80,6 @@ pub record Long (s : Standing) (l : Lists) : Type 0 where
   pub arcs : s.arcs ≤ length l.arcs
   pub pending : s.pending ≤ length l.pending
 
-some≢none : {X : Type 0} (x : X) → Some x ≡ None → ⊥
-some≢none x e = let z : ◌≡◌ {A = ℕ} 0 1 = cc in omega arith
-
 pub long_none : (s : Standing) (l : Lists) → Long s l → short_list s l ≡ None
 long_none s l h =
     simp (le-ltb (length l.sheet) s.cores h.sheet, le-ltb (length l.states) s.states h.states, le-ltb (length l.arcs) s.arcs h.arcs, le-ltb (length l.pending) s.pending h.pending)
@@ -99,7 +88,7 @@ none_sheet : (s : Standing) (l : Lists) → short_list s l ≡ None → s.cores 
 none_sheet s l e = go (ltb (length l.sheet) s.cores) refl _ _ e
   where
     go : (b : Bool) → ltb (length l.sheet) s.cores ≡ b → (f : ShortFault) (o : Option ShortFault) → cond b (Some f) o ≡ None → s.cores ≤ length l.sheet
-    go true p f o e = absurd (some≢none f e)
+    go true p f o e = absurd (none-some f (sym e))
     go false p f o e = ltb-false _ _ p
 
 taken_long : {X : Type 0} (n : ℕ) (xs ys : List X) → take n xs ≡ reverse ys → length ys ≡ n → n ≤ length xs
@@ -114,18 +103,12 @@ pub record Goes (s s' : Standing) (after : Lists) : Type 0 where
   pub steps : s'.steps ≡ s.steps + 65535
   pub few : s.steps < 4294967295
 
-progress≢refusal : (p : Progressed) (s t : Standing) (f : ShortFault) → progress p s ≡ refusal f t → ⊥
-progress≢refusal p s t f e = let z : ◌≡◌ {A = ℕ} 0 1 = cc in omega arith
-
-progress_same : {p q : Progressed} {s t : Standing} → progress p s ≡ progress q t → (p ≡ q) × (s ≡ t)
-progress_same e = (cc, cc)
-
 pub running_goes : (s s' : Standing) (before after : Lists) → short_list s before ≡ None → Steps s before 65535 (progress running s') after → Goes s s' after
-running_goes s s' before after h (refused fault e f g) = absurd (progress≢refusal running s' s fault f)
+running_goes s s' before after h (refused fault e f g) = cc
 running_goes s s' before after h (stepped e f w) =
     let made = advanced_by 65535 s before in
-    let p = progress_same f in
-    let t : s' ≡ standing_at s made.config = p.1 in
+    let ran : running ≡ made.answer = cc in
+    let t : s' ≡ standing_at s made.config = cc in
     let long : Long (standing_at s made.config) after = record {
       sheet = omega (arith, none_sheet s before h, ap length w.sheet);
       states = over_long made.config.states _ after.states w.states;
@@ -134,36 +117,17 @@ running_goes s s' before after h (stepped e f w) =
     } in
     record {
       long = ap (λ x. short_list x after) t ∙ long_none (standing_at s made.config) after long;
-      steps = ap (λ x. x.steps) t ∙ running_steps _ _ 65535 _ (sym p.0);
-      few = running_few _ (room_of before) 65534 _ (sym p.0);
+      steps = ap (λ x. x.steps) t ∙ running_steps _ _ 65535 _ (sym ran);
+      few = running_few _ (room_of before) 65534 _ (sym ran);
     }
 
-ok≢err : {X Y : Type 0} (x : X) (y : Y) → ◌≡◌ {A = Result X Y} (Ok x) (Err y) → ⊥
-ok≢err x y e = let z : ◌≡◌ {A = ℕ} 0 1 = cc in omega arith
-
-ok_same : {X Y : Type 0} {x y : X} → ◌≡◌ {A = Result X Y} (Ok x) (Ok y) → x ≡ y
-ok_same e = cc
-
--- a translation that has begun has lists that are long enough
-pub begun_long : (book : List Node) (place : Place) (before : Lists) (s : Standing) (sheet : List CoreNode) (pending : List Item)
-    → Begins book place before.sheet before.pending (Ok s) sheet pending → short_list s (lists sheet before.states before.arcs pending) ≡ None
-begun_long book place before s sheet pending (refused_begin {fault} e f g h) = absurd (ok≢err s fault f)
-begun_long book place before s sheet pending (begun_at e f g h) =
-    let after = lists sheet before.states before.arcs pending in
-    let w = form_at book place in
-    let long : Long (begun w) after = record {
-      sheet = over_long w.sheet _ sheet g;
-      states = omega arith;
-      arcs = omega arith;
-      pending = omega (arith, ap length h);
-    } in
-    ap (λ x. short_list x after) (ok_same f) ∙ long_none (begun w) after long
-
 -- ---- a refused file
+sized : (file : List ℕ) (fault : ReadFault) → HandsBack file fault → Sized file (file_fault fault)
+sized file (FileSize rest) h = ap length h
+sized file (AtCommand c) h = tt
+
 pub unread_as : (file : List ℕ) (before : Lists) (fault : ReadFault) (empty book : List Node) → empty ≡ []
     → Reads empty file (told (Err fault)) book → HandsBack file fault
     → (answer : Result Listed ListFault) → answer ≡ Err (Read (file_fault fault)) → Listing file before answer before
-unread_as file before (FileSize rest) empty book e r h answer is =
-    unread {fault = Size (length rest.now)} (subst (λ b. Reads b file wrong_size book) e r) (ap length h) is refl
-unread_as file before (AtCommand c) empty book e r h answer is =
-    unread {fault = Command c.start c.fault} (subst (λ b. Reads b file (refused_at c.fault c.start) book) e r) tt is refl
+unread_as file before fault empty book e r h answer is =
+    unread (subst (λ b. Reads b file (told (Err fault)) book) e r) (sized file fault h) is refl

@@ -5,7 +5,7 @@ use lists::LongestLists;
 use rules::reading::MOST_BYTES;
 use std::io;
 use std::io::Read;
-use tableau::translation::Finished;
+use tableau::translation::Totals;
 
 // Reads no more than one byte over what a rule file may have.
 fn read_file(rt: &HostRuntime) -> io::Result<Vec<u8>> {
@@ -17,17 +17,11 @@ fn read_file(rt: &HostRuntime) -> io::Result<Vec<u8>> {
 }
 
 // Prints a line for each state and each arc.
-fn tell_automaton(rt: &HostRuntime, lists: &LongestLists, finished: &Finished) -> io::Result<()> {
-    let totals = finished.totals();
+fn tell_automaton(rt: &HostRuntime, lists: &LongestLists, totals: Totals) -> io::Result<()> {
     let states = lists.states.iter().take(totals.states() as usize);
     for (index, &state) in states.enumerate() {
-        println!(rt;
-            "{}",
-            StateLine {
-                number: index + 1,
-                state
-            }
-        )?;
+        let number = index + 1;
+        println!(rt; "{}", StateLine { number, state })?;
     }
     for &arc in lists.arcs.iter().take(totals.arcs() as usize) {
         println!(rt; "{}", ArcLine(arc))?;
@@ -41,7 +35,7 @@ pub(crate) fn run(rt: &HostRuntime) -> anyhow::Result<()> {
     let answer = lists.list_rule(file.as_slice());
     println!(rt; "{}", HeadLine::of(&answer))?;
     if let Ok(Listed::Finished(finished)) = &answer {
-        tell_automaton(rt, &lists, finished)?;
+        tell_automaton(rt, &lists, finished.totals())?;
     }
     Ok(())
 }

@@ -1,9 +1,9 @@
 use Rattle.std.proofs.Common.{Err, refl, ap, ◌∙◌, subst}
 use Rattle.std.proofs.lemmas.Result.{err_from_is_err_and}
 use Rattle.rules.specs.Reading.{Reads, rule}
-use Rattle.tableau.specs.Stepping.{lists, standing}
+use Rattle.tableau.specs.Stepping.{lists}
 use Rattle.listing.specs.Listing.{unbegun, begun}
-use Rattle.listing.proofs.Chains.{begun_long, unread_as}
+use Rattle.listing.proofs.Chains.{unread_as}
 use Rattle.listing.proofs.list_rule.Goals as goal
 
 pub returns-in_err-place : goal.returns-in_err-place
@@ -19,11 +19,6 @@ returns-in_err-running c =
     let p = err_from_is_err_and c.from_residual-in_err-running.result c.from_residual-in_err-running.ensures.1 in
     unbegun (subst (λ b. Reads b c.args.file.now (rule c.in_ok-place.place) c.read.new.book) c.new-book.ensures c.in_ok-place.ensures.reads)
     c.in_err-running.ensures.begins (p.1 ∙ ap Err p.2) refl
-
-pub step_on-requires : goal.step_on-requires
-step_on-requires c =
-    begun_long c.read.new.book c.in_ok-place.place (lists c.args.sheet.now c.args.states.now c.args.arcs.now c.args.pending.now)
-    (standing c.in_ok-running.running) c.begin.new.sheet c.begin.new.pending c.in_ok-running.ensures.begins
 
 pub returns : goal.returns
 returns c =
