@@ -2,7 +2,6 @@
 use Rattle.std.specs.Prelude.{ℕ, cond, List, length, Ok, Err, Result, nat_le, nat_lt}
 use Rattle.automata.specs.Sheets.{Written, core_form}
 use Rattle.automata.specs.declared.nodes.CoreNode.{CoreNode}
-use Rattle.coreform.specs.declared.draft.TheConstants.{MOST_NODES}
 use Rattle.coreform.specs.declared.form.CoreForm.{CoreForm}
 use Rattle.coreform.specs.declared.form.FormFault.{FormFault}
 use Rattle.coreform.specs.declared.form.FormFault.TheVariants.{NotInBook, TooManyNodes}
@@ -32,5 +31,5 @@ form_at book place = core_form (rule_at book place.index)
 abbrev pub formed : List Node → Place → Result Written FormFault
 formed book place =
     cond (nat_lt place.index (length book))
-    (cond (nat_le (length (form_at book place).sheet) MOST_NODES) (Ok (form_at book place)) (Err TooManyNodes))
+    (cond (nat_le (length (form_at book place).sheet) 64) (Ok (form_at book place)) (Err TooManyNodes))
     (Err (NotInBook place))

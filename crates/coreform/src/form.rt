@@ -1,4 +1,7 @@
 // The core form of the rule at a place of a book.
+ghost use Rattle.std.specs.Prelude.{◌≤◌, length};
+ghost use Rattle.coreform.specs.declared.draft.TheConstants.{MOST_NODES};
+
 use crate::draft::Draft;
 use rules::node::Place;
 
@@ -9,6 +12,7 @@ pub mod forming;
 pub struct CoreForm {
     nodes: Draft,
     root: u8,
+    ghost few: { length nodes ≤ MOST_NODES },
 }
 
 /// Why there is no core form. docs/REFUSALS.md has the numbers.

@@ -1,6 +1,6 @@
 // How the core form of a node is written, from the numbers of its operands.
 ghost use Rattle.std.specs.Prelude.{◌≡◌, ◌<◌, ◌≤◌, List, length, take};
-ghost use Rattle.coreform.specs.declared.recipe.TheConstants.{MOST_STEPS};
+ghost use Rattle.coreform.specs.declared.recipe.TheConstants.{MOST_RECIPE_STEPS};
 ghost use Rattle.coreform.specs.declared.recipe.Step.{Step as AnyStep};
 
 use automata::nodes::CoreNode;
@@ -19,12 +19,12 @@ pub enum Step {
 }
 
 // How many steps a recipe may have.
-pub const MOST_STEPS: usize = 7;
+pub const MOST_RECIPE_STEPS: usize = 7;
 
 // The steps for one node: the last one answers its number.
 #[derive(Drop)]
 pub struct Recipe {
-    steps: [Step; MOST_STEPS],
+    steps: [Step; MOST_RECIPE_STEPS],
     count: usize,
 }
 
@@ -33,16 +33,16 @@ impl Model for Recipe {
 
     ghost view = { λ r. take r.count r.steps };
 
-    ghost invariant = { λ r. (0 < r.count) × (r.count ≤ MOST_STEPS) };
+    ghost invariant = { λ r. (0 < r.count) × (r.count ≤ MOST_RECIPE_STEPS) };
 }
 
 impl Recipe {
     // A recipe of these steps.
     pub(crate) fn new(given: &[Step]) -> Recipe
-        requires { (0 < length given.now) × (length given.now ≤ MOST_STEPS) }
+        requires { (0 < length given.now) × (length given.now ≤ MOST_RECIPE_STEPS) }
         ensures { result ≡ given.now }
     {
-        let mut steps = [Step::Put(CoreNode::False); MOST_STEPS];
+        let mut steps = [Step::Put(CoreNode::False); MOST_RECIPE_STEPS];
         let count = given.len();
         steps[..count].copy_from_slice(given);
         Recipe { steps, count }
@@ -52,7 +52,7 @@ impl Recipe {
     pub(crate) fn steps(&self) -> &[Step]
         ensures steps { result.now ≡ self.now }
         ensures some { 0 < length result.now }
-        ensures few { length result.now ≤ MOST_STEPS }
+        ensures few { length result.now ≤ MOST_RECIPE_STEPS }
     {
         &self.steps[..self.count]
     }

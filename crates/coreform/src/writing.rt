@@ -8,7 +8,7 @@ ghost use Rattle.semantics.specs.Rules.{rule_at};
 use crate::cookbook::recipe_of;
 use crate::draft::Draft;
 use crate::numbers::Numbers;
-use crate::recipe::{MOST_STEPS, Step};
+use crate::recipe::{MOST_RECIPE_STEPS, Step};
 use automata::nodes::CoreNode;
 use rules::book::Book;
 use rules::node::Place;
@@ -65,7 +65,7 @@ impl<'a> Writer<'a> {
         let recipe = recipe_of(self.book.nodes()[place.index as usize], polarity);
         let steps = recipe.steps();
         // Kept: no heap; a crate for a list in an array is no plainer for this one local.
-        let mut made = [0u8; MOST_STEPS];
+        let mut made = [0u8; MOST_RECIPE_STEPS];
         for (at, step) in steps.iter().enumerate() {
             made[at] = match *step {
                 Step::Write(a, p) => self.write(a, p)?,

@@ -1,6 +1,6 @@
 // A translation: how far it has come, and what of each lent list is in use.
 ghost use Rattle.std.specs.Prelude.{◌≤◌, Some};
-ghost use Rattle.tableau.specs.declared.limits.TheConstants.{MOST_CORES, MOST_STATES, MOST_ARCS, MOST_PENDING};
+ghost use Rattle.tableau.specs.declared.limits.TheConstants.{MOST_CORES, MOST_UNTILS, MOST_STATES, MOST_ARCS, MOST_PENDING};
 ghost use Rattle.tableau.specs.Texts.{lack_text};
 
 use crate::fault::ShortFault;
@@ -20,6 +20,7 @@ pub struct Totals {
     pub(crate) states: u16,
     pub(crate) arcs: u16,
     ghost few_cores: { cores ≤ MOST_CORES },
+    ghost few_sets: { sets ≤ MOST_UNTILS },
     ghost few_states: { states ≤ MOST_STATES },
     ghost few_arcs: { arcs ≤ MOST_ARCS },
 }
