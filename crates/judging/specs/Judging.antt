@@ -1,5 +1,5 @@
 -- A judge call: whether the rule at a place holds of a recording, and what the work list says afterwards.
-use Rattle.std.specs.Prelude.{◌≡◌, ℕ, ◌+◌, ◌*◌, ◌<◌, ◌≤◌, Bool, true, cond, ◌↔◌, List, length, drop, Some, None, Ok, Err, Option, Result, nat_le, nat_lt, slice_index}
+use Rattle.std.specs.Prelude.{◌≡◌, ℕ, ◌+◌, ◌*◌, ◌<◌, ◌≤◌, Bool, true, if◌then◌else◌, ◌↔◌, List, length, drop, Some, None, Ok, Err, Option, Result, nat_le, nat_lt, slice_index}
 use Rattle.rules.specs.declared.node.Node.{Node}
 use Rattle.rules.specs.declared.node.Place.{Place}
 use Rattle.semantics.specs.Lassos.{Lasso, unrolled}
@@ -16,9 +16,9 @@ needed l = 4 * length l.words
 -- the refusal that stands, the place before the list
 abbrev pub judge_fault : List Node → Place → Lasso → List ℕ → Option JudgeFault
 judge_fault book place l work =
-    cond (nat_lt place.index (length book))
-    (cond (nat_le (needed l) (length work)) None (Some (Short Work (needed l))))
-    (Some (NotInBook place))
+    if nat_lt place.index (length book)
+    then if nat_le (needed l) (length work) then None else Some (Short Work (needed l))
+    else Some (NotInBook place)
 
 -- word 4 × i + j has in bit b the truth of place 64 × j + b at scan i, and 0 above the judged place; later words stay
 pub record Tells (book : List Node) (place : Place) (l : Lasso) (before after : List ℕ) : Type 0 where

@@ -1,5 +1,5 @@
 -- A recording with a word per change.
-use Rattle.std.specs.Prelude.{ℕ, ◌+◌, ◌^◌, ◌<◌, cond, ◌||◌, List, [], ◌∷◌, map, Some, None, Ok, Err, Option, ◌==◌, nat_le, nat_lt, slice_index_or}
+use Rattle.std.specs.Prelude.{ℕ, ◌+◌, ◌^◌, ◌<◌, if◌then◌else◌, ◌||◌, List, [], ◌∷◌, map, Some, None, Ok, Err, Option, ◌==◌, nat_le, nat_lt, slice_index_or}
 use Rattle.std.specs.List.{range_with_len}
 use Rattle.std.specs.Result.{result_and}
 use Rattle.semantics.specs.Lassos.{Lasso}
@@ -20,12 +20,12 @@ Smalls es = (k : ℕ) → (slice_index_or es k no_edge).word < 2 ^ 64
 abbrev pub fault_from : ℕ → ℕ → ℕ → List Edge → Option ℕ
 fault_from i low n [] = None
 fault_from i low n (e ∷ es) =
-    cond (nat_lt e.scan low || nat_le n e.scan) (Some i) (fault_from (i + 1) (e.scan + 1) n es)
+    if nat_lt e.scan low || nat_le n e.scan then Some i else fault_from (i + 1) (e.scan + 1) n es
 
 -- the first edge at fault; there is an edge, and the first is at scan 0
 abbrev pub edge_fault : ℕ → List Edge → Option ℕ
 edge_fault n [] = Some 0
-edge_fault n (e ∷ es) = cond (e.scan == 0) (fault_from 0 0 n (e ∷ es)) (Some 0)
+edge_fault n (e ∷ es) = if e.scan == 0 then fault_from 0 0 n (e ∷ es) else Some 0
 
 -- what the check of the edges answers
 abbrev pub order_check : Option ℕ → Checked
@@ -39,7 +39,7 @@ edges_check es n start = result_and (scans_check n start) (order_check (edge_fau
 -- the word of the last edge at or before the scan, and w where there is none
 abbrev pub word_from : ℕ → List Edge → ℕ → ℕ
 word_from w [] s = w
-word_from w (e ∷ es) s = word_from (cond (nat_le e.scan s) e.word w) es s
+word_from w (e ∷ es) s = word_from (if nat_le e.scan s then e.word else w) es s
 
 -- the word at a scan; 0 before the first edge
 abbrev pub word_at : List Edge → ℕ → ℕ

@@ -1,5 +1,5 @@
 -- What every kind of recording is checked for, and the stand-in where a check refuses.
-use Rattle.std.specs.Prelude.{ℕ, cond, ◌&&◌, [], ◌∷◌, Ok, Err, Result, nat_le, nat_lt}
+use Rattle.std.specs.Prelude.{ℕ, if◌then◌else◌, ◌&&◌, [], ◌∷◌, Ok, Err, Result, nat_le, nat_lt}
 use Rattle.semantics.specs.Lassos.{Lasso}
 use Rattle.models.specs.declared.fault.RecordingFault.{RecordingFault}
 use Rattle.models.specs.declared.fault.RecordingFault.TheVariants.{ScanCount, LoopStart}
@@ -10,11 +10,11 @@ Checked = Result (Unit {0}) RecordingFault
 
 -- the loop start is one of n scans
 abbrev pub start_check : ℕ → ℕ → Checked
-start_check n start = cond (nat_lt start n) (Ok tt) (Err (LoopStart start))
+start_check n start = if nat_lt start n then Ok tt else Err (LoopStart start)
 
 -- there are 1 to 65,535 scans, and the loop start is one of them
 abbrev pub scans_check : ℕ → ℕ → Checked
-scans_check n start = cond (nat_lt 0 n && nat_le n 65535) (start_check n start) (Err (ScanCount n))
+scans_check n start = if nat_lt 0 n && nat_le n 65535 then start_check n start else Err (ScanCount n)
 
 -- one scan of the word 0, which loops
 abbrev pub quiet : Lasso

@@ -1,5 +1,5 @@
 -- A lasso: scans 0 to n − 1, which are followed by those from the loop start on, without end.
-use Rattle.std.specs.Prelude.{ℕ, suc, ◌+◌, ◌-◌, ◌%◌, ◌^◌, ◌<◌, ◌≤◌, cond, List, length, nat_lt, slice_index}
+use Rattle.std.specs.Prelude.{ℕ, suc, ◌+◌, ◌-◌, ◌%◌, ◌^◌, ◌<◌, ◌≤◌, if◌then◌else◌, List, length, nat_lt, slice_index}
 
 -- its words and its loop start; the number of scans is that of the words
 pub record Lasso : Type 0 where
@@ -15,7 +15,7 @@ pub record Sound (l : Lasso) : Type 0 where
 
 -- the scan at position i of the endless sequence, of n scans with the loop start s
 abbrev pub wrapped : ℕ → ℕ → ℕ → ℕ
-wrapped n s i = cond (nat_lt i n) i (s + (i - s) % (n - s))
+wrapped n s i = if nat_lt i n then i else s + (i - s) % (n - s)
 
 -- the same for a lasso
 abbrev pub scan_at : Lasso → ℕ → ℕ
@@ -27,4 +27,4 @@ unrolled l i = slice_index l.words (scan_at l i)
 
 -- the scan after scan x
 abbrev pub following : ℕ → ℕ → ℕ → ℕ
-following n s x = cond (nat_lt (suc x) n) (suc x) s
+following n s x = if nat_lt (suc x) n then suc x else s
