@@ -1,6 +1,6 @@
 // A recording with a word per change.
-ghost use Rattle.std.specs.Prelude.{◌≡◌, true, is_ok, None};
-ghost use Rattle.models.specs.EdgeWords.{Smalls, edge_fault, word_at, edges_check, of_edges, edges_of};
+ghost use Rattle.std.specs.Prelude.{◌≡◌, true, is_ok};
+ghost use Rattle.models.specs.EdgeWords.{Smalls, edge_fault, order_check, word_at, edges_check, of_edges, edges_of};
 ghost use Rattle.models.specs.Soundness.{edges_sound};
 
 use crate::fault::RecordingFault;
@@ -24,23 +24,23 @@ pub struct Edges<'a> {
     ghost small: { Smalls edges.now },
 }
 
-// The first edge at fault: the first is at scan 0, each other after the one before, and all below the count.
-fn first_fault(edges: &[Edge], count: usize) -> Option<usize>
-    ensures value { result ≡ edge_fault count edges.now }
-    ensures small { result ≡ None → Smalls edges.now }
+// Refuses the first edge at fault: the first is at scan 0, each other after the one before, and all below the count.
+fn check_order(edges: &[Edge], count: usize) -> Result<(), RecordingFault>
+    ensures value { result ≡ order_check (edge_fault count edges.now) }
+    ensures small { is_ok result ≡ true → Smalls edges.now }
 {
     if edges.is_empty() || edges[0].scan != 0 {
-        return Some(0);
+        return Err(RecordingFault::EdgeOrder(0));
     }
     // Kept: the new form is no plainer: each edge is compared with the one before it, which a chain would have to carry.
     let mut low = 0;
     for (index, &edge) in edges.iter().enumerate() {
         if edge.scan < low || edge.scan >= count {
-            return Some(index);
+            return Err(RecordingFault::EdgeOrder(index));
         }
         low = edge.scan + 1;
     }
-    None
+    Ok(())
 }
 
 impl<'a> Edges<'a> {
@@ -53,10 +53,7 @@ impl<'a> Edges<'a> {
         ensures small { is_ok result ≡ true → Smalls edges.now }
     {
         check_scans(count, loop_start)?;
-        match first_fault(edges, count) {
-            Some(index) => Err(RecordingFault::EdgeOrder(index)),
-            None => Ok(()),
-        }
+        check_order(edges, count)
     }
 
     /// The recording of these edges; where `check` refuses them, one scan of the word 0, which loops.

@@ -16,6 +16,7 @@ pub enum RecordingFault {
 
 impl RecordingFault {
     /// The number of the refusal, 12 to 14.
+    // Kept: a public promise, and docs/REFUSALS.md lists the numbers.
     pub fn number(&self) -> u8
         ensures { result ≡ recording_number self.now }
     {

@@ -1,6 +1,6 @@
 use Rattle.std.proofs.Common.{◌≡◌, ℕ, ◌^◌, ◌<◌, get_or, drop}
 use Rattle.models.specs.EdgeWords.{no_edge, fault_from, edge_fault}
-use Rattle.models.proofs.edges.first_fault.Given as goal
+use Rattle.models.proofs.edges.check_order.Given as goal
 
 abbrev pub invariant-loop-index : goal.invariant-loop-index
 invariant-loop-index l =

@@ -1,7 +1,7 @@
 use Rattle.std.proofs.Common.{◌^◌, ◌<◌, get_or, ◌∙◌, rules, below_more}
 use Rattle.models.specs.EdgeWords.{no_edge}
 use Rattle.models.proofs.Orderly.{fault_later}
-use Rattle.models.proofs.edges.first_fault.Goals as goal
+use Rattle.models.proofs.edges.check_order.Goals as goal
 
 pub loop-index-preserved : goal.loop-index-preserved
 loop-index-preserved c =
