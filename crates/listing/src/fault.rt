@@ -54,6 +54,7 @@ impl ListFault {
     }
 
     /// The byte of the file, counted from 0, where the refused command starts, and 0 where no command is refused.
+    // Kept: a rule of the project, a public promise: it is 0 where no command is refused, and printed so.
     pub fn start(&self) -> usize
         ensures { result ≡ list_start self.now }
     {

@@ -50,6 +50,7 @@ fn step_on(
     requires { short_list (standing running) (lists sheet.now states.old arcs.old pending.old) ≡ Nothing }
     ensures { StepsOn (standing running) (lists sheet.now states.old arcs.old pending.old) (ending result) (lists sheet.now states.new arcs.new pending.new) }
 {
+    // Kept: the new form is no plainer: a translation is moved from call to call, and nothing is counted.
     let mut current = running;
     loop {
         match step_once(current, sheet, states, arcs, pending) {
