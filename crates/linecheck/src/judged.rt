@@ -29,7 +29,7 @@ pub(crate) struct Judged {
     pub holds: bool,
 }
 
-// The rule at a place of a book, and the heap that has the work lists.
+// The rule at a place of a book, and the heap for its work lists.
 #[derive(Clone, Copy)]
 pub(crate) struct Judge<'a> {
     pub heap: Global,
