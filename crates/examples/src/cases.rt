@@ -1,7 +1,7 @@
 // A case: a rule, a recording, and whether the rule holds of it.
 use judging::fault::JudgeFault;
 use models::fault::RecordingFault;
-use rules::reading::ReadFault;
+use rules::reading::{FileFault, ReadFault};
 use std::alloc::{AllocError, Global};
 use texts::{decimal, hex_word};
 use thiserror::Error;
@@ -19,28 +19,22 @@ pub(crate) struct Case {
 pub(crate) enum CaseFault {
     #[error("no case")]
     NoCase,
-    // the rule, the recording or the judge call is refused, under this number
-    #[error("refused {0}")]
-    Refused(u8),
+    // the rule file is refused
+    #[error("refused {number}", number = .0.number())]
+    Rule(FileFault),
+    // the recording is refused
+    #[error("refused {number}", number = .0.number())]
+    Recording(#[from] RecordingFault),
+    // the judge call is refused
+    #[error("refused {number}", number = .0.number())]
+    Judge(#[from] JudgeFault),
     #[error("no memory")]
     Memory(#[from(alloc)] AllocError),
 }
 
 impl From<ReadFault<'_>> for CaseFault {
     fn from(fault: ReadFault<'_>) -> CaseFault {
-        CaseFault::Refused(fault.number())
-    }
-}
-
-impl From<RecordingFault> for CaseFault {
-    fn from(fault: RecordingFault) -> CaseFault {
-        CaseFault::Refused(fault.number())
-    }
-}
-
-impl From<JudgeFault> for CaseFault {
-    fn from(fault: JudgeFault) -> CaseFault {
-        CaseFault::Refused(fault.number())
+        CaseFault::Rule(FileFault::from(fault))
     }
 }
 

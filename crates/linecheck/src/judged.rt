@@ -29,63 +29,50 @@ pub(crate) struct Judged {
     pub holds: bool,
 }
 
-// The verdict on a recording, and what it was judged on.
-fn judge_recording<R: Recording>(
-    heap: Global,
-    book: &Book,
-    place: Place,
-    recording: &R,
-    kind: Kind,
-) -> Result<Judged, NoVerdict>
-    ensures { IfOk result (λ told. Reports book.now place (R.meaning recording.now) told) }
-{
-    let scans = recording.count();
-    let mut work = vec![in heap; 0; WORDS_PER_SCAN * scans]?;
-    let holds = give_verdict(book, place, recording, work.as_mut_slice())?;
-    Ok(Judged {
-        kind,
-        scans,
-        loop_start: recording.loop_start(),
-        holds,
-    })
+// The rule at a place of a book, and the heap for its work lists.
+#[derive(Clone, Copy)]
+pub(crate) struct Judge<'a> {
+    pub heap: Global,
+    pub book: &'a Book,
+    pub place: Place,
 }
 
-// The verdict on a recording that a text says, once it has passed the check of its kind.
-pub(crate) fn verdict(
-    heap: Global,
-    book: &Book,
-    place: Place,
-    recorded: &Recorded,
-) -> Result<Judged, NoVerdict>
-    ensures passes { Passes (check_of recorded.now) result }
-    ensures verdict { IfOk result (λ told. Reports book.now place (lasso_of recorded.now) told) }
-{
-    match recorded {
-        Recorded::Packed { words, loop_start } => {
-            let words = words.as_slice();
-            Packed::check(words, *loop_start)?;
-            judge_recording(
-                heap,
-                book,
-                place,
-                &Packed::new(words, *loop_start),
-                Kind::Packed,
-            )
-        }
-        Recorded::Edges {
-            edges,
-            count,
-            loop_start,
-        } => {
-            let edges = edges.as_slice();
-            Edges::check(edges, *count, *loop_start)?;
-            judge_recording(
-                heap,
-                book,
-                place,
-                &Edges::new(edges, *count, *loop_start),
-                Kind::Edges,
-            )
+impl Judge<'_> {
+    // The verdict on a recording, and what it was judged on.
+    fn judge<R: Recording>(&self, recording: &R, kind: Kind) -> Result<Judged, NoVerdict>
+        ensures { IfOk result (λ told. Reports self.now.book.now self.now.place (R.meaning recording.now) told) }
+    {
+        let scans = recording.count();
+        let mut work = vec![in self.heap; 0; WORDS_PER_SCAN * scans]?;
+        let holds = give_verdict(self.book, self.place, recording, work.as_mut_slice())?;
+        Ok(Judged {
+            kind,
+            scans,
+            loop_start: recording.loop_start(),
+            holds,
+        })
+    }
+
+    // The verdict on a recording that a text says, once it has passed the check of its kind.
+    pub(crate) fn verdict(&self, recorded: &Recorded) -> Result<Judged, NoVerdict>
+        ensures passes { Passes (check_of recorded.now) result }
+        ensures verdict { IfOk result (λ told. Reports self.now.book.now self.now.place (lasso_of recorded.now) told) }
+    {
+        match recorded {
+            Recorded::Packed { words, loop_start } => {
+                let words = words.as_slice();
+                Packed::check(words, *loop_start)?;
+                self.judge(&Packed::new(words, *loop_start), Kind::Packed)
+            }
+            Recorded::Edges {
+                edges,
+                count,
+                loop_start,
+            } => {
+                let edges = edges.as_slice();
+                Edges::check(edges, *count, *loop_start)?;
+                self.judge(&Edges::new(edges, *count, *loop_start), Kind::Edges)
+            }
         }
     }
 }

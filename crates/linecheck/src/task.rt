@@ -1,6 +1,6 @@
 // The task: a rule file is read, and its rule is judged on each recording that is named.
 use crate::fault::NoVerdict;
-use crate::judged::{Judged, verdict};
+use crate::judged::{Judge, Judged};
 use crate::telling::{Counted, Sentence};
 use crate::text::parse;
 use rules::book::Book;
@@ -26,28 +26,18 @@ fn read_rule(rt: &HostRuntime, book: &mut Book, file: &str) -> Result<Rule, NoVe
     })
 }
 
-fn judge_file(
-    rt: &HostRuntime,
-    book: &Book,
-    place: Place,
-    file: &str,
-) -> Result<Judged, NoVerdict> {
+fn judge_file(rt: &HostRuntime, judge: &Judge, file: &str) -> Result<Judged, NoVerdict> {
     let text = fs::read_to_string(rt, file)?;
     let recorded = parse(rt.alloc(), text.as_str())?;
-    verdict(rt.alloc(), book, place, &recorded)
+    judge.verdict(&recorded)
 }
 
 // Judges the rule on each of the files, and answers whether each got a verdict.
-fn judge_files(
-    rt: &HostRuntime,
-    book: &Book,
-    place: Place,
-    files: &[String],
-) -> anyhow::Result<bool> {
+fn judge_files(rt: &HostRuntime, judge: &Judge, files: &[String]) -> anyhow::Result<bool> {
     let mut all = true;
     for file in files {
         let file = file.as_str();
-        match judge_file(rt, book, place, file) {
+        match judge_file(rt, judge, file) {
             Ok(judged) => println!(rt; "{file}: {judged}")?,
             Err(cause) => {
                 all = false;
@@ -69,7 +59,12 @@ fn judge_rule(rt: &HostRuntime, file: &str, recordings: &[String]) -> anyhow::Re
                 "{file}: {bytes}, {nodes}, the rule at place {}",
                 place.index
             )?;
-            judge_files(rt, &book, place, recordings)
+            let judge = Judge {
+                heap: rt.alloc(),
+                book: &book,
+                place,
+            };
+            judge_files(rt, &judge, recordings)
         }
         Err(cause) => {
             rt.println(Sentence { file, cause })?;

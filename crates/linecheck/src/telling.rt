@@ -4,7 +4,8 @@ use crate::judged::{Judged, Kind};
 use crate::text::{Expected, TextFault};
 use judging::fault::JudgeFault;
 use models::fault::RecordingFault;
-use rules::reading::FileFault;
+use models::recording::MOST_SCANS;
+use rules::reading::{FileFault, MOST_BYTES};
 use std::fmt;
 use std::io::ErrorKind;
 
@@ -80,7 +81,7 @@ fn rule_fault<W: fmt::Write>(
         FileFault::Size(size) => {
             write!(
                 f,
-                "refused {number}: {file} has {}; a rule file has 1 to 4096",
+                "refused {number}: {file} has {}; a rule file has 1 to {MOST_BYTES}",
                 Counted(size, "byte")
             )
         }
@@ -114,7 +115,7 @@ fn recording_fault<W: fmt::Write>(
         RecordingFault::ScanCount(count) => {
             write!(
                 f,
-                "refused {number}: {file} has {}; a recording has 1 to 65535",
+                "refused {number}: {file} has {}; a recording has 1 to {MOST_SCANS}",
                 Counted(count, "scan")
             )
         }

@@ -63,6 +63,8 @@ fn is_silent(line: &str) -> bool {
     line.starts_with('#') || line.trim().is_empty()
 }
 
+// What a line says as a heading, if it says one.
+// Kept: the new form is no plainer: as `FromStr` it would have an error, which says no more than `None`.
 fn heading_of(line: &str) -> Option<Heading>
     ensures { HeadingLine line.now result }
 {
@@ -77,6 +79,8 @@ fn heading_of(line: &str) -> Option<Heading>
     Some(Heading::Edges { count, loop_start })
 }
 
+// The edge that a line says, if it says one.
+// Kept: the new form is no plainer: `Edge` is of another crate, so that `FromStr` would need a type around it.
 fn edge_of(line: &str) -> Option<Edge>
     ensures { EdgeLine line.now result }
 {

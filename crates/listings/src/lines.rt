@@ -21,21 +21,18 @@ pub(crate) fn line_at(
     if number >= line_count(head) {
         return Ok(None);
     }
-    if number == 0 {
-        return Ok(Some(format!(in heap; "{head}")?));
-    }
-    let HeadLine::Automaton { states, .. } = head else {
-        return Ok(None);
-    };
-    let states = states as usize;
-    if number <= states {
-        let state = lists.states.get(number - 1).copied();
-        state
-            .map(|state| format!(in heap; "{}", StateLine { number, state }))
-            .transpose()
-    } else {
-        let arc = lists.arcs.get(number - states - 1).copied();
-        arc.map(|arc| format!(in heap; "{}", ArcLine(arc)))
-            .transpose()
+    match head {
+        HeadLine::Automaton { states, .. } if number > states as usize => {
+            let arc = lists.arcs.get(number - states as usize - 1).copied();
+            arc.map(|arc| format!(in heap; "{}", ArcLine(arc)))
+                .transpose()
+        }
+        HeadLine::Automaton { .. } if number > 0 => {
+            let state = lists.states.get(number - 1).copied();
+            state
+                .map(|state| format!(in heap; "{}", StateLine { number, state }))
+                .transpose()
+        }
+        _ => Ok(Some(format!(in heap; "{head}")?)),
     }
 }
