@@ -1,5 +1,5 @@
 -- The numbers that are remembered.
-use Rattle.std.specs.Prelude.{ℕ, Bool, true, false, cond, ◌&&◌, Some, None, Option, ◌==◌, slice_index_or}
+use Rattle.std.specs.Prelude.{ℕ, Bool, true, false, if◌then◌else◌, ◌&&◌, Some, None, Option, ◌==◌, slice_index_or}
 use Rattle.std.specs.Bool.{beq}
 use Rattle.coreform.specs.declared.numbers.Numbers.{Numbers}
 
@@ -10,4 +10,4 @@ number_of n false k = slice_index_or n.denied k None
 
 -- one number more
 abbrev pub with_number : Numbers → Bool → ℕ → ℕ → Bool → ℕ → Option ℕ
-with_number n polarity place number p k = cond (beq p polarity && k == place) (Some number) (number_of n p k)
+with_number n polarity place number p k = if beq p polarity && k == place then Some number else number_of n p k

@@ -13,6 +13,7 @@ use std::marker::Model;
 pub const MOST_NODES: usize = 64;
 
 /// The nodes of a core form, in the order of their numbers: at most 64.
+// Kept: fixed memory, and Rattle has no generic struct over an array of its parameter.
 #[derive(Drop)]
 pub struct Draft {
     nodes: [CoreNode; MOST_NODES],

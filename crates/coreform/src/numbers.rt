@@ -9,7 +9,7 @@ use rules::table::ROOM;
 // For each place the number of its core form, and of its denial's.
 // Kept: tried as `[[Option<u8>; 2]; ROOM]`; the proof of `set` lacks the inner array's length.
 #[derive(Drop)]
-pub struct Numbers {
+pub(crate) struct Numbers {
     held: [Option<u8>; ROOM],
     denied: [Option<u8>; ROOM],
 }

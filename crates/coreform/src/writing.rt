@@ -17,6 +17,7 @@ use rules::node::Place;
 fn node_over(node: CoreNode, made: &[u8]) -> CoreNode
     ensures { result ≡ node_over node made.now }
 {
+    // Kept: no plainer: None already says that there is no room, and recipes name earlier steps alone.
     let number = |step: u8| made.get(step as usize).copied().unwrap_or(0);
     match node {
         CoreNode::True | CoreNode::False | CoreNode::On(_) | CoreNode::Off(_) => node,

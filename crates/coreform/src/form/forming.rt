@@ -10,6 +10,7 @@ use rules::node::Place;
 
 impl FormFault {
     /// The number of the refusal: 9 or 7. docs/REFUSALS.md has them all.
+    // Kept: a public promise, and docs/REFUSALS.md lists the numbers.
     pub fn number(&self) -> u8
         ensures { result ≡ form_number self.now }
     {
