@@ -1,6 +1,7 @@
 // Writing the core form of the rule at a place, each place and polarity once.
-ghost use Rattle.std.specs.Prelude.{◌≡◌, ◌<◌, [], length, slice_index, IfSome};
+ghost use Rattle.std.specs.Prelude.{◌≡◌, ◌<◌, ◌≤◌, [], length, IfSome};
 ghost use Rattle.automata.specs.Cores.{core_of};
+ghost use Rattle.coreform.specs.declared.draft.TheConstants.{MOST_NODES};
 ghost use Rattle.coreform.specs.Recipes.{node_over};
 ghost use Rattle.coreform.specs.Writing.{Known, Writes};
 ghost use Rattle.semantics.specs.Rules.{rule_at};
@@ -35,6 +36,7 @@ pub(crate) struct Writer<'a> {
     pub(crate) draft: Draft,
     numbers: Numbers,
     book: &'a Book,
+    ghost few: { length draft ≤ MOST_NODES },
 }
 
 impl<'a> Writer<'a> {

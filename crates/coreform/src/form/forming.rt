@@ -47,7 +47,6 @@ pub fn core_form(book: &Book, place: Place) -> Result<CoreForm, FormFault>
     }
     let mut writer = Writer::new(book);
     let root = writer.write(place, true).ok_or(FormFault::TooManyNodes)?;
-    writer.draft.few();
     Ok(CoreForm {
         nodes: writer.draft,
         root,
