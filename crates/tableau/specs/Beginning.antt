@@ -30,14 +30,17 @@ short_for n sheet pending =
     if nat_lt (length sheet) n then Some (Short (record { list = Sheet; needed = n }))
     else if nat_lt (length pending) 1 then Some (Short (record { list = Pending; needed = 1 })) else None
 
--- the refusal that stands: the place, then the nodes (over 64), then the untils (over 16), then the lists
+-- the refusal of a core form: the nodes (over 64), then the untils (over 16), then the lists
+abbrev pub form_fault : Written → List CoreNode → List Item → Option BeginFault
+form_fault w sheet pending =
+    if nat_le (cores w) MOST_CORES
+    then if nat_le (untils w) MOST_UNTILS then short_for (cores w) sheet pending else Some (TooManyUntils (untils w))
+    else Some (Form TooManyNodes)
+
+-- the refusal that stands: the place, then what is refused of its core form
 abbrev pub begin_fault : List Node → Place → List CoreNode → List Item → Option BeginFault
 begin_fault book place sheet pending =
-    if nat_lt place.index (length book)
-    then if nat_le (cores (form_at book place)) MOST_CORES
-    then if nat_le (untils (form_at book place)) MOST_UNTILS then short_for (cores (form_at book place)) sheet pending else Some (TooManyUntils (untils (form_at book place)))
-    else Some (Form TooManyNodes)
-    else Some (Form (NotInBook place))
+    if nat_lt place.index (length book) then form_fault (form_at book place) sheet pending else Some (Form (NotInBook place))
 
 -- the numbers of a translation that has begun
 abbrev pub begun : Written → Standing
