@@ -1,50 +1,16 @@
 -- What is on a sheet, or on any longer one, is not written again: it keeps its number.
-use Rattle.std.proofs.Common.{◌≡◌, ℕ, zero, suc, ◌<◌, ◌≤◌, Bool, true, false, cond, ◌&&◌, eqb, List, [], ◌∷◌, ◌++◌, length, Decides, sym, refl, ap, ◌∙◌, subst, append_assoc, append-nil, arith, length-append}
-use native.Mathlib.Decide.{dec_lt}
-use Rattle.std.proofs.lemmas.Bool.{eqb-true, eq-eqb, and_parts, and_from, lt-ltb, le-ltb}
+use Rattle.std.proofs.Common.{◌≡◌, ℕ, suc, ◌<◌, ◌≤◌, Bool, true, false, cond, List, [], ◌∷◌, ◌++◌, length, Decides, sym, refl, ap, ◌∙◌, subst, append_assoc, append-nil, arith, rules, length-append}
+use Rattle.std.proofs.Math.Decide.{dec_lt}
+use Rattle.std.proofs.lemmas.Bool.{lt-ltb, le-ltb}
 use Rattle.automata.specs.Cores.{Core, ctrue, cfalse, con, coff, cnext, cand, cor, cuntil, crelease}
-use Rattle.automata.specs.Sheets.{parts, same, number_on, Written, put, put1, put2, write}
+use Rattle.automata.specs.Sheets.{same, number_on, Written, put, put1, put2, write}
 use Rattle.automata.specs.declared.nodes.CoreNode.{CoreNode}
 use Rattle.automata.specs.declared.nodes.CoreNode.TheVariants.{True, False, On, Off, Next, And, Or, Until, Release}
 
 -- ---- equal nodes
-rebuilt : ℕ → ℕ → ℕ → CoreNode
-rebuilt zero a b = True
-rebuilt (suc zero) a b = False
-rebuilt (suc (suc zero)) a b = On a
-rebuilt (suc (suc (suc zero))) a b = Off a
-rebuilt (suc (suc (suc (suc zero)))) a b = Next a
-rebuilt (suc (suc (suc (suc (suc zero))))) a b = And a b
-rebuilt (suc (suc (suc (suc (suc (suc zero)))))) a b = Or a b
-rebuilt (suc (suc (suc (suc (suc (suc (suc zero))))))) a b = Until a b
-rebuilt (suc (suc (suc (suc (suc (suc (suc (suc n)))))))) a b = Release a b
-
-back : (x : CoreNode) → rebuilt (parts x).0 (parts x).1 (parts x).2 ≡ x
-unfolding rebuilt
-back True = refl
-back False = refl
-back (On s) = refl
-back (Off s) = refl
-back (Next a) = refl
-back (And a b) = refl
-back (Or a b) = refl
-back (Until a b) = refl
-back (Release a b) = refl
-
 pub same_decides : (x y : CoreNode) → Decides (same x y) (x ≡ y)
 unfolding same
-same_decides x y = (
-  λ t.
-      let p = and_parts (eqb (parts x).0 (parts y).0) (eqb (parts x).1 (parts y).1 && eqb (parts x).2 (parts y).2) t in
-      let q = and_parts (eqb (parts x).1 (parts y).1) (eqb (parts x).2 (parts y).2) p.1 in
-      let c = eqb-true (parts x).0 (parts y).0 p.0 in
-      let f = eqb-true (parts x).1 (parts y).1 q.0 in
-      let g = eqb-true (parts x).2 (parts y).2 q.1 in
-      sym (back x) ∙ (λ i. rebuilt (c i) (f i) (g i)) ∙ back y,
-  λ e.
-      and_from (eqb (parts x).0 (parts y).0) (eqb (parts x).1 (parts y).1 && eqb (parts x).2 (parts y).2) (eq-eqb (parts x).0 (parts y).0 (ap (λ z. (parts z).0) e))
-      (and_from (eqb (parts x).1 (parts y).1) (eqb (parts x).2 (parts y).2) (eq-eqb (parts x).1 (parts y).1 (ap (λ z. (parts z).1) e)) (eq-eqb (parts x).2 (parts y).2 (ap (λ z. (parts z).2) e))),
-)
+same_decides x y = search rules
 
 same_self : (x : CoreNode) → same x x ≡ true
 same_self x = (same_decides x x).1 refl

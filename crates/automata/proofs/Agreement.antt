@@ -1,7 +1,7 @@
 -- On every lasso the core form of a rule holds exactly where the rule does, and that of its denial exactly where it
 -- does not.
 use Rattle.std.proofs.Common.{◌≡◌, ℕ, zero, suc, ◌+◌, ◌-◌, ◌<◌, ◌≤◌, true, false, ◌⊎◌, ◌↔◌, length, get_or, sym, ap, ◌∙◌, subst, inl, inr, arith}
-use native.Mathlib.Decide.{dec_le, dec_lt, ℕ_discrete}
+use Rattle.std.proofs.Math.Decide.{dec_le, dec_lt, ℕ_discrete}
 use Rattle.rules.specs.declared.node.BinaryOp.{BinaryOp}
 use Rattle.rules.specs.declared.node.BinaryOp.TheVariants.{And, Or, Implies, Equivalent, ExclusiveOr, Until, Release, WeakUntil, StrongRelease}
 use Rattle.rules.specs.declared.node.UnaryOp.{UnaryOp}

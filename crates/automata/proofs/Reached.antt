@@ -1,6 +1,6 @@
 -- The defined steps come to one end, by whatever allowances they are made.
 use Rattle.std.proofs.Common.{◌≡◌, ℕ, zero, suc, ◌+◌, ◌-◌, Bool, true, false, ◌⊎◌, List, [], ◌∷◌, sym, refl, ap, ◌∙◌, inl, inr, add-zero, add-suc, arith}
-use native.Mathlib.Decide.{dec_le}
+use Rattle.std.proofs.Math.Decide.{dec_le}
 use Rattle.automata.specs.Steps.{Config, settle, step_on, step_with, one_step, after, Room, Progressed, finished, running, no_room, within, Advanced, unless_lacking, unless_finished, advance}
 use Rattle.automata.specs.declared.items.Item.{Item}
 use Rattle.automata.specs.declared.nodes.CoreNode.{CoreNode}

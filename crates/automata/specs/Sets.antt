@@ -1,5 +1,5 @@
 -- Sets of core numbers.
-use Rattle.std.specs.Prelude.{ℕ, ◌^◌, Bool, cond, ◌==◌, bit_or, bit_xor}
+use Rattle.std.specs.Prelude.{ℕ, ◌^◌, Bool, if◌then◌else◌, ◌==◌, bit_or, bit_xor}
 use Rattle.std.specs.Int.Count.{count_trailing_zeros}
 use Rattle.automata.specs.declared.nodes.CoreSet.{CoreSet}
 use Rattle.semantics.specs.Meaning.{bit}
@@ -30,4 +30,4 @@ lowest m = count_trailing_zeros 64 m.bits
 
 -- a joins new unless it is in old
 abbrev pub join : ℕ → CoreSet → CoreSet → CoreSet
-join a old new = cond (has old a) new (insert new a)
+join a old new = if has old a then new else insert new a

@@ -1,6 +1,6 @@
 -- The core form written on a sheet: nodes are numbered as they are made, left to right, inner before outer,
 -- an equal node being used again.
-use Rattle.std.specs.Prelude.{◌≡◌, ℕ, suc, Bool, Decides, true, cond, ◌&&◌, List, [], ◌∷◌, ◌++◌, length, ◌==◌, nat_lt}
+use Rattle.std.specs.Prelude.{◌≡◌, ℕ, suc, Bool, Decides, true, if◌then◌else◌, ◌&&◌, List, [], ◌∷◌, ◌++◌, length, ◌==◌, nat_lt}
 use Rattle.automata.specs.Cores.{Core, ctrue, cfalse, con, coff, cnext, cand, cor, cuntil, crelease, core_of}
 use Rattle.automata.specs.declared.nodes.CoreNode.{CoreNode}
 use Rattle.automata.specs.declared.nodes.CoreNode.TheVariants.{True, False, On, Off, Next, And, Or, Until, Release}
@@ -29,7 +29,7 @@ SameDecides = (x y : CoreNode) → Decides (same x y) (x ≡ y)
 -- the number of a node: where it stands on the sheet, or the next free number
 abbrev pub number_on : CoreNode → List CoreNode → ℕ
 number_on n [] = 0
-number_on n (x ∷ xs) = cond (same x n) 0 (suc (number_on n xs))
+number_on n (x ∷ xs) = if same x n then 0 else suc (number_on n xs)
 
 -- a sheet, and the number of the core form on it
 pub record Written : Type 0 where
@@ -38,7 +38,7 @@ pub record Written : Type 0 where
 
 -- a node joins the sheet unless it is there
 abbrev pub put : CoreNode → List CoreNode → Written
-put n xs = record { sheet = cond (nat_lt (number_on n xs) (length xs)) xs (xs ++ n ∷ []); root = number_on n xs }
+put n xs = record { sheet = if nat_lt (number_on n xs) (length xs) then xs else xs ++ n ∷ []; root = number_on n xs }
 
 -- a node over one operand, which is on the sheet already
 abbrev pub put1 : (ℕ → CoreNode) → Written → Written

@@ -1,5 +1,5 @@
 -- The steps of a translation, for whatever stands on the lists.
-use Rattle.std.specs.Prelude.{ℕ, zero, suc, ◌+◌, ◌^◌, Bool, true, false, cond, ◌&&◌, List, [], ◌∷◌, ◌++◌, length, ◌==◌, bit_or, nat_le, nat_lt, slice_index_or}
+use Rattle.std.specs.Prelude.{ℕ, zero, suc, ◌+◌, ◌^◌, Bool, true, false, if◌then◌else◌, ◌&&◌, List, [], ◌∷◌, ◌++◌, length, ◌==◌, bit_or, nat_le, nat_lt, slice_index_or}
 use Rattle.automata.specs.Sets.{has, insert, remove, lowest, join, empty, set_of}
 use Rattle.automata.specs.declared.items.Arc.{Arc}
 use Rattle.automata.specs.declared.items.Item.{Item}
@@ -26,7 +26,7 @@ sound_on n node = true
 
 -- a node that names a number that is not on the sheet, or a signal above 63, counts as false
 abbrev pub checked : ℕ → CoreNode → CoreNode
-checked n node = cond (sound_on n node) node False
+checked n node = if sound_on n node then node else False
 
 -- what stands on the sheet under number k, as it counts; false where nothing does
 abbrev pub node_on : List CoreNode → ℕ → CoreNode
@@ -46,7 +46,7 @@ off_bit node = 0
 -- the signals whose literal, on or off, is among the members below n
 abbrev pub signals : (CoreNode → ℕ) → List CoreNode → CoreSet → ℕ → ℕ
 signals literal sheet old zero = 0
-signals literal sheet old (suc n) = bit_or (signals literal sheet old n) (cond (has old n) (literal (node_on sheet n)) 0)
+signals literal sheet old (suc n) = bit_or (signals literal sheet old n) (if has old n then literal (node_on sheet n) else 0)
 
 -- the signals whose on literal is in Old
 abbrev pub on_signals : List CoreNode → CoreSet → ℕ
@@ -68,7 +68,7 @@ untils_below sheet (suc n) = untils_below sheet n + is_until (node_on sheet n)
 
 -- the mark set of each until, by number: borne where the until is not in Old, or its second operand is
 abbrev pub mark_of : CoreNode → ℕ → CoreSet → ℕ → ℕ
-mark_of (Until a b) k old j = cond (has old k) (cond (has old b) (2 ^ j) 0) (2 ^ j)
+mark_of (Until a b) k old j = if has old k then if has old b then 2 ^ j else 0 else 2 ^ j
 mark_of node k old j = 0
 
 -- the marks of a state with this Old, for the untils below number n
@@ -124,8 +124,8 @@ choice new = lowest new
 -- the items that go back in when core number k leaves New of item i: none where the node drops it
 abbrev pub taken : List CoreNode → ℕ → Item → List Item
 taken sheet k i =
-    cond (drops sheet i.old (node_on sheet k)) []
-    (split (node_on sheet k) k i.source (remove i.new k) (insert i.old k) i.next)
+    if drops sheet i.old (node_on sheet k) then []
+    else split (node_on sheet k) k i.source (remove i.new k) (insert i.old k) i.next
 
 -- the state has this Old and Next
 abbrev pub is_state : State → CoreSet → CoreSet → Bool
@@ -134,7 +134,7 @@ is_state s old next = s.old.bits == old.bits && s.next.bits == next.bits
 -- how many states come before the first with this Old and Next
 abbrev pub states_before : CoreSet → CoreSet → List State → ℕ
 states_before old next [] = 0
-states_before old next (s ∷ ss) = cond (is_state s old next) 0 (suc (states_before old next ss))
+states_before old next (s ∷ ss) = if is_state s old next then 0 else suc (states_before old next ss)
 
 -- the arcs have the same two ends
 abbrev pub same_arc : Arc → Arc → Bool
@@ -143,7 +143,7 @@ same_arc a b = a.from == b.from && a.to == b.to
 -- an arc with the same two ends is in the list
 abbrev pub arc_among : Arc → List Arc → Bool
 arc_among a [] = false
-arc_among a (b ∷ bs) = cond (same_arc b a) true (arc_among a bs)
+arc_among a (b ∷ bs) = if same_arc b a then true else arc_among a bs
 
 -- an arc between two states, by their numbers; 0 is the start
 abbrev pub arc : ℕ → ℕ → Arc
@@ -151,7 +151,7 @@ arc from to = record { from = from; to = to }
 
 -- an arc to one of n states is added unless present; one that names a state above n counts as absent
 abbrev pub add_arc : ℕ → Arc → List Arc → List Arc
-add_arc n a arcs = cond (nat_le a.from n && arc_among a arcs) arcs (arcs ++ a ∷ [])
+add_arc n a arcs = if nat_le a.from n && arc_among a arcs then arcs else arcs ++ a ∷ []
 
 -- New is empty: a state has this Old and Next, or a new one is made
 abbrev pub settle : Bool → List CoreNode → Item → List Item → Config → Config
@@ -215,10 +215,10 @@ pub data Progressed : Type 0 where
 -- the first of the four that a config has too much of, or else the answer
 abbrev pub within : Room → Config → Progressed → Progressed
 within room c answer =
-    cond (nat_lt room.steps c.steps) (no_room steps)
-    (cond (nat_lt room.states (length c.states)) (no_room states)
-    (cond (nat_lt room.arcs (length c.arcs)) (no_room arcs)
-    (cond (nat_lt room.pending (length c.pending)) (no_room pending) answer)))
+    if nat_lt room.steps c.steps then no_room steps
+    else if nat_lt room.states (length c.states) then no_room states
+    else if nat_lt room.arcs (length c.arcs) then no_room arcs
+    else if nat_lt room.pending (length c.pending) then no_room pending else answer
 
 -- what had been made when the steps ended, and the answer
 pub record Advanced : Type 0 where

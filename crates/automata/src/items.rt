@@ -5,6 +5,7 @@ use crate::nodes::CoreSet;
 /// number, from 1. How step goes about it is in docs/TRANSLATION.md.
 #[derive(Clone, Copy, PartialEq, Eq, Debug, Default)]
 pub struct Item {
+    // Kept: a public promise; the definitions under the law have 0 for the start.
     pub source: u32,
     pub new: CoreSet,
     pub old: CoreSet,

@@ -3,6 +3,7 @@ use Rattle.std.proofs.Common.{◌≡◌, ℕ, Bool, true, false, cond, ◌&&◌,
 use Rattle.std.specs.Bool.{beq}
 use Rattle.std.specs.Cmp.{booleans_Decides}
 use Rattle.std.proofs.lemmas.Bool.{eqb-true, and_parts}
+use Rattle.std.proofs.lemmas.Option.{same_Some}
 use Rattle.automata.specs.Cores.{Core, core_of}
 use Rattle.automata.specs.Sheets.{write}
 use Rattle.automata.specs.declared.nodes.CoreNode.{CoreNode}
@@ -29,11 +30,8 @@ known_more book draft n n' polarity place number known sets stands p k x e = go 
     go : (b : Bool) → (beq p polarity && eqb k place) ≡ b → Stands (core_of (rule_at book k) p) draft x
     go true t =
         let parts = and_parts (beq p polarity) (eqb k place) t in
-        let same : number ≡ x = same_some (sym (ap (λ b. cond b (Some number) (number_of n p k)) t) ∙ sym (sets p k) ∙ e) in
+        let same : number ≡ x = same_Some _ _ (sym (ap (λ b. cond b (Some number) (number_of n p k)) t) ∙ sym (sets p k) ∙ e) in
         let there = subst (Stands (core_of (rule_at book place) polarity) draft) same stands in
         subst (λ k. Stands (core_of (rule_at book k) p) draft x) (sym (eqb-true k place parts.1))
         (subst (λ q. Stands (core_of (rule_at book place) q) draft x) (sym ((booleans_Decides p polarity).0 parts.0)) there)
-      where
-        same_some : {a b : ℕ} → Some a ≡ Some b → a ≡ b
-        same_some z = cc
     go false t = known p k x (sym (ap (λ b. cond b (Some number) (number_of n p k)) t) ∙ sym (sets p k) ∙ e)

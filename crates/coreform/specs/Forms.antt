@@ -1,5 +1,5 @@
 -- The core form of the rule at a place, or why there is none.
-use Rattle.std.specs.Prelude.{ℕ, cond, List, length, Ok, Err, Result, nat_le, nat_lt}
+use Rattle.std.specs.Prelude.{ℕ, if◌then◌else◌, List, length, Ok, Err, Result, nat_le, nat_lt}
 use Rattle.automata.specs.Sheets.{Written, core_form}
 use Rattle.automata.specs.declared.nodes.CoreNode.{CoreNode}
 use Rattle.coreform.specs.declared.form.CoreForm.{CoreForm}
@@ -30,6 +30,6 @@ form_at book place = core_form (rule_at book place.index)
 -- the core form, or its refusal: first of a place that is not in the book, then of more than 64 nodes
 abbrev pub formed : List Node → Place → Result Written FormFault
 formed book place =
-    cond (nat_lt place.index (length book))
-    (cond (nat_le (length (form_at book place).sheet) 64) (Ok (form_at book place)) (Err TooManyNodes))
-    (Err (NotInBook place))
+    if nat_lt place.index (length book)
+    then if nat_le (length (form_at book place).sheet) 64 then Ok (form_at book place) else Err TooManyNodes
+    else Err (NotInBook place)

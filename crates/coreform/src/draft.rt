@@ -13,6 +13,7 @@ use std::marker::Model;
 pub const MOST_NODES: usize = 64;
 
 /// The nodes of a core form, in the order of their numbers: at most 64.
+// Kept: fixed memory, and Rattle has no generic struct over an array of its parameter.
 #[derive(Drop)]
 pub struct Draft {
     nodes: [CoreNode; MOST_NODES],
@@ -53,16 +54,10 @@ impl Draft {
         &self.nodes[..self.count]
     }
 
-    // For a proof: at most 64 nodes are written.
-    pub(crate) fn few(&self)
-        ensures { length self.now ≤ MOST_NODES }
-    {
-        let _ = &self.count;
-    }
-
     // Writes a node unless it is there, and answers its number: none where 64 others are written.
     pub(crate) fn put(&mut self, node: CoreNode) -> Option<u8>
-        ensures { Drafted self.new result (put node self.old) }
+        ensures drafted { Drafted self.new result (put node self.old) }
+        ensures few { length self.new ≤ MOST_NODES }
     {
         if let Some(number) = number_on(self.nodes(), node) {
             return Some(number as u8);

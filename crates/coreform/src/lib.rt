@@ -1,9 +1,9 @@
 // The core form of a rule in the book, written once for each place and polarity.
 #![tactic(auto)]
 
-pub mod cookbook;
+pub(crate) mod cookbook;
 pub mod draft;
 pub mod form;
-pub mod numbers;
-pub mod recipe;
-pub mod writing;
+pub(crate) mod numbers;
+pub(crate) mod recipe;
+pub(crate) mod writing;

@@ -6,12 +6,17 @@ ghost use Rattle.rules.specs.declared.table.TheConstants.{ROOM};
 use rules::node::Place;
 use rules::table::ROOM;
 
-// For each place the number of its core form, and of its denial's.
-// Kept: tried as `[[Option<u8>; 2]; ROOM]`; the proof of `set` lacks the inner array's length.
+// The number of the core form of the rule at a place, and of its denial's.
+#[derive(Clone, Copy)]
+pub(crate) struct Pair {
+    pub held: Option<u8>,
+    pub denied: Option<u8>,
+}
+
+// For each place its numbers.
 #[derive(Drop)]
-pub struct Numbers {
-    held: [Option<u8>; ROOM],
-    denied: [Option<u8>; ROOM],
+pub(crate) struct Numbers {
+    pairs: [Pair; ROOM],
 }
 
 impl Numbers {
@@ -20,8 +25,10 @@ impl Numbers {
         ensures { (polarity : Bool) (k : ℕ) → number_of result polarity k ≡ None }
     {
         Numbers {
-            held: [None; ROOM],
-            denied: [None; ROOM],
+            pairs: [Pair {
+                held: None,
+                denied: None,
+            }; ROOM],
         }
     }
 
@@ -29,8 +36,8 @@ impl Numbers {
     pub(crate) fn get(&self, polarity: bool, place: Place) -> Option<u8>
         ensures { result ≡ number_of self.now polarity place.index }
     {
-        let numbers = if polarity { &self.held } else { &self.denied };
-        *numbers.get(place.index as usize)?
+        let pair = self.pairs.get(place.index as usize)?;
+        if polarity { pair.held } else { pair.denied }
     }
 
     // Remembers one number more.
@@ -38,11 +45,11 @@ impl Numbers {
         requires { place.index < ROOM }
         ensures { (p : Bool) (k : ℕ) → number_of self.new p k ≡ with_number self.old polarity place.index number p k }
     {
-        let index = place.index as usize;
+        let pair = &mut self.pairs[place.index as usize];
         if polarity {
-            self.held[index] = Some(number);
+            pair.held = Some(number);
         } else {
-            self.denied[index] = Some(number);
+            pair.denied = Some(number);
         }
     }
 }

@@ -8,9 +8,9 @@ use rules::node::Place;
 use std::marker::Model;
 
 // One step; the numbers that the steps before it answered are counted from 0.
-// Kept: closures as steps are refused by a rule of the project, as functions that hand them out.
-#[derive(Clone, Copy)]
-pub enum Step {
+// Kept: a rule of the project: `recipe_of` would hand out closures, which the gate refuses.
+#[derive(Clone, Copy, PartialEq, Eq, Debug)]
+pub(crate) enum Step {
     // write the rule at a place (true), or its denial (false)
     // Kept: an enum of polarities is no plainer, for `core_of` and its laws take a Bool.
     Write(Place, bool),
@@ -19,11 +19,12 @@ pub enum Step {
 }
 
 // How many steps a recipe may have.
-pub const MOST_RECIPE_STEPS: usize = 7;
+pub(crate) const MOST_RECIPE_STEPS: usize = 7;
 
 // The steps for one node: the last one answers its number.
+// Kept: fixed memory, and Rattle has no generic struct over an array of its parameter.
 #[derive(Drop)]
-pub struct Recipe {
+pub(crate) struct Recipe {
     steps: [Step; MOST_RECIPE_STEPS],
     count: usize,
 }

@@ -1,6 +1,7 @@
 // Writing the core form of the rule at a place, each place and polarity once.
-ghost use Rattle.std.specs.Prelude.{◌≡◌, ◌<◌, [], length, slice_index, IfSome};
+ghost use Rattle.std.specs.Prelude.{◌≡◌, ◌<◌, ◌≤◌, [], length, IfSome};
 ghost use Rattle.automata.specs.Cores.{core_of};
+ghost use Rattle.coreform.specs.declared.draft.TheConstants.{MOST_NODES};
 ghost use Rattle.coreform.specs.Recipes.{node_over};
 ghost use Rattle.coreform.specs.Writing.{Known, Writes};
 ghost use Rattle.semantics.specs.Rules.{rule_at};
@@ -17,6 +18,7 @@ use rules::node::Place;
 fn node_over(node: CoreNode, made: &[u8]) -> CoreNode
     ensures { result ≡ node_over node made.now }
 {
+    // Kept: no plainer: None already says that there is no room, and recipes name earlier steps alone.
     let number = |step: u8| made.get(step as usize).copied().unwrap_or(0);
     match node {
         CoreNode::True | CoreNode::False | CoreNode::On(_) | CoreNode::Off(_) => node,
@@ -34,6 +36,7 @@ pub(crate) struct Writer<'a> {
     pub(crate) draft: Draft,
     numbers: Numbers,
     book: &'a Book,
+    ghost few: { length draft ≤ MOST_NODES },
 }
 
 impl<'a> Writer<'a> {

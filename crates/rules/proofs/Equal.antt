@@ -1,6 +1,5 @@
 -- `same` says whether nodes are equal, and `place_of` is the first place of an equal one.
-use Rattle.std.proofs.Common.{◌≡◌, ◌≢◌, ℕ, zero, suc, ◌+◌, ◌<◌, Bool, cond, List, [], ◌∷◌, length, get_or, Some, None, Decides, sym, refl, ap, ◌∙◌, arith, rules}
-use Rattle.std.proofs.lemmas.Bool.Decides.{same_from_decides}
+use Rattle.std.proofs.Common.{◌≡◌, ◌≢◌, ℕ, zero, suc, ◌+◌, ◌<◌, cond, List, [], ◌∷◌, length, get_or, Some, None, Decides, sym, refl, ap, ◌∙◌, arith, rules}
 use Rattle.std.proofs.lemmas.Grind.{common_steps}
 use Rattle.std.proofs.lemmas.Iterator.Adapters.{position_from-zero}
 use Rattle.std.specs.List.{position, position_from}
@@ -11,9 +10,6 @@ use Rattle.rules.specs.declared.node.Node.TheVariants.{True}
 pub same_decides : (x y : Node) → Decides (same x y) (x ≡ y)
 unfolding same
 same_decides x y = search rules
-
-pub eq_is_same : (x y : Node) (r : Bool) → Decides r (x ≡ y) → r ≡ same x y
-eq_is_same x y r h = same_from_decides r (same x y) h (same_decides x y)
 
 -- std's word for the first place
 place_is_from : (n : Node) (i : ℕ) (xs : List Node) → place_from i n xs ≡ position_from (λ x. same x n) i xs

@@ -1,5 +1,5 @@
 -- Which byte begins which command, and how many bytes each command has.
-use Rattle.std.specs.Prelude.{ℕ, cond, List, [], ◌∷◌, Some, None, Option, ◌==◌}
+use Rattle.std.specs.Prelude.{ℕ, if◌then◌else◌, List, [], ◌∷◌, Some, None, Option, ◌==◌}
 use Rattle.rules.specs.declared.command.Command.{Command}
 use Rattle.rules.specs.declared.command.Command.TheVariants.{Plain, Signal, Unary, Binary}
 use Rattle.rules.specs.declared.node.Node.TheVariants.{True, False}
@@ -17,7 +17,7 @@ commands =
 -- the command of the first entry with this byte
 abbrev pub command_in : List (ℕ × Command) → ℕ → Option Command
 command_in [] b = None
-command_in (c ∷ cs) b = cond (b == c.0) (Some c.1) (command_in cs b)
+command_in (c ∷ cs) b = if b == c.0 then Some c.1 else command_in cs b
 
 -- the command that begins with a byte, where one does
 abbrev pub command_of : ℕ → Option Command

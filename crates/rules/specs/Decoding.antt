@@ -1,5 +1,5 @@
 -- The node that the command at the front of some bytes says, and the command's length, or the fault.
-use Rattle.std.specs.Prelude.{ℕ, ◌+◌, ◌*◌, cond, List, [], ◌∷◌, Some, None, Ok, Err, Option, Result, nat_le}
+use Rattle.std.specs.Prelude.{ℕ, ◌+◌, ◌*◌, if◌then◌else◌, List, [], ◌∷◌, Some, None, Ok, Err, Option, Result, nat_le}
 use Rattle.rules.specs.Commands.{command_of}
 use Rattle.rules.specs.declared.command.Command.{Command}
 use Rattle.rules.specs.declared.command.Command.TheVariants as command
@@ -23,7 +23,7 @@ Decoded = Result (Node × ℕ) EnterFault
 
 -- the node of a signal; its number is at most 63
 abbrev pub signal : ℕ → Decoded
-signal s = cond (nat_le s 63) (Ok (node.Signal s, 3)) (Err (SignalAbove s))
+signal s = if nat_le s 63 then Ok (node.Signal s, 3) else Err (SignalAbove s)
 
 -- what the bytes after the command byte b make of its command
 abbrev pub operands : ℕ → Option Command → List ℕ → Decoded

@@ -1,5 +1,5 @@
 -- What entering one command answers, and what the book holds afterwards.
-use Rattle.std.specs.Prelude.{◌≡◌, ℕ, cond, List, [], ◌∷◌, ◌++◌, length, Some, None, Ok, Err, Option, Result, nat_lt}
+use Rattle.std.specs.Prelude.{◌≡◌, ℕ, if◌then◌else◌, List, [], ◌∷◌, ◌++◌, length, Some, None, Ok, Err, Option, Result, nat_lt}
 use Rattle.rules.specs.Decoding.{Decoded, decoded}
 use Rattle.rules.specs.Nodes.{place_of}
 use Rattle.rules.specs.declared.fault.EnterFault.{EnterFault}
@@ -21,13 +21,13 @@ abbrev pub missing : Node → ℕ → Option Place
 missing True n = None
 missing False n = None
 missing (Signal s) n = None
-missing (Unary o a) n = cond (nat_lt a.index n) None (Some a)
-missing (Binary o a b) n = cond (nat_lt a.index n) (cond (nat_lt b.index n) None (Some b)) (Some a)
+missing (Unary o a) n = if nat_lt a.index n then None else Some a
+missing (Binary o a b) n = if nat_lt a.index n then if nat_lt b.index n then None else Some b else Some a
 
 -- an equal node's place, and else the node stands last, unless there are 256
 abbrev pub settled : List Node → Node → Option ℕ → Outcome Place
 settled xs n (Some k) = (Ok (at k), xs)
-settled xs n None = cond (nat_lt (length xs) 256) (Ok (at (length xs)), xs ++ n ∷ []) (Err Full, xs)
+settled xs n None = if nat_lt (length xs) 256 then (Ok (at (length xs)), xs ++ n ∷ []) else (Err Full, xs)
 
 -- what a node that may be entered gets: the first place of an equal one, where there is one
 abbrev pub added : List Node → Node → Outcome Place

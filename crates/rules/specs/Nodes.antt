@@ -1,5 +1,5 @@
 -- When two nodes are equal, and where a node stands in a list of nodes.
-use Rattle.std.specs.Prelude.{◌≡◌, ℕ, ◌+◌, Bool, Decides, cond, ◌&&◌, List, [], ◌∷◌, Some, None, Option, ◌==◌}
+use Rattle.std.specs.Prelude.{◌≡◌, ℕ, ◌+◌, Bool, Decides, if◌then◌else◌, ◌&&◌, List, [], ◌∷◌, Some, None, Option, ◌==◌}
 use Rattle.rules.specs.declared.node.Node.{Node}
 use Rattle.rules.specs.declared.node.Node.TheVariants.{True, False, Signal, Unary, Binary}
 use Rattle.rules.specs.declared.node.UnaryOp.{UnaryOp}
@@ -61,7 +61,7 @@ SameDecides = (x y : Node) → Decides (same x y) (x ≡ y)
 -- the first place of a node equal to n in the list, counted from i
 abbrev pub place_from : ℕ → Node → List Node → Option ℕ
 place_from i n [] = None
-place_from i n (x ∷ xs) = cond (same x n) (Some i) (place_from (i + 1) n xs)
+place_from i n (x ∷ xs) = if same x n then Some i else place_from (i + 1) n xs
 
 -- the first place of a node equal to n in the list
 abbrev pub place_of : Node → List Node → Option ℕ

@@ -67,6 +67,7 @@ pub(crate) fn command_length(byte: u8) -> usize
 }
 
 // The number that two bytes say, the high byte first.
+// Kept: no plainer: used on bytes taken by `let .. else`, and an impl for a pair says no more.
 pub(crate) fn operand(high: u8, low: u8) -> u16
     ensures { result ≡ high * 256 + low }
 {

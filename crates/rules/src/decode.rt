@@ -10,6 +10,7 @@ use crate::node::{Node, Place};
 const LAST_SIGNAL: u16 = 63;
 
 // The place that two bytes say.
+// Kept: no plainer: used on bytes taken by `let .. else`, and an impl for a pair says no more.
 fn place_at(high: u8, low: u8) -> Place
     ensures { result ≡ place high low }
 {

@@ -39,6 +39,7 @@ pub enum FileFault {
     Command { start: usize, fault: EnterFault },
 }
 
+// Kept: no plainer: a derive's From has no contract, and clauses name the error.
 impl<'a> From<CommandFault<'a>> for ReadFault<'a> {
     ghost from_gives = { λ x y. y ≡ AtCommand x };
 
@@ -47,6 +48,7 @@ impl<'a> From<CommandFault<'a>> for ReadFault<'a> {
     }
 }
 
+// Kept: no plainer: a derive's From has no contract, and clauses name the error.
 impl From<ReadFault<'_>> for FileFault {
     ghost from_gives = { λ x y. y ≡ file_fault x };
 
@@ -87,6 +89,7 @@ impl FileFault {
 
 impl ReadFault<'_> {
     /// The number of the refusal, 1 to 6.
+    // Kept: a public promise, and docs/REFUSALS.md lists the numbers.
     pub fn number(&self) -> u8
         ensures { result ≡ read_number self.now }
     {
@@ -94,6 +97,7 @@ impl ReadFault<'_> {
     }
 
     /// The byte where the refused command starts, counted from 0, and 0 where the file's size is refused.
+    // Kept: a public promise, which says 0 where there is no such byte.
     pub fn start(&self) -> usize
         ensures { result ≡ read_start self.now }
     {

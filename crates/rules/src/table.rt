@@ -8,7 +8,7 @@ use crate::node::Node;
 pub const ROOM: usize = 256;
 
 /// The nodes at their places, counted from 0: those below `count` are entered.
-// Kept: fixed memory, since no call of this crate may allocate.
+// Kept: fixed memory, and Rattle has no generic struct over an array of its parameter.
 #[derive(Drop)]
 pub struct Table {
     pub nodes: [Node; ROOM],

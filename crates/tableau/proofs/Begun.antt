@@ -62,8 +62,8 @@ module _ (book : List Node) (place : Place) (sheet : List CoreNode) (pending : L
         go true true q e =
             let i : w ≡ form = cc in
             (i, subst (λ w. cores w ≤ 64) (sym i) (leb-true _ _ q))
-        go true false q e = let z : ◌≡◌ {A = ℕ} 0 1 = cc in absurd (omega arith)
-        go false b q e = let z : ◌≡◌ {A = ℕ} 0 1 = cc in absurd (omega arith)
+        go true false q e = absurd cc
+        go false b q e = absurd cc
 
     -- the number of the whole is one of its nodes
     pub root_few : w.root < 64
@@ -94,7 +94,7 @@ module _ (book : List Node) (place : Place) (sheet : List CoreNode) (pending : L
             go : (t : Bool) → Some fault ≡ cond t (Some (record { list = Sheet; needed = length nodes })) None
                 → cond t (Some (Short (record { list = Sheet; needed = length nodes }))) (cond (ltb (length pending) 1) (Some (Short (record { list = Pending; needed = 1 }))) None) ≡ Some (Short fault)
             go true e = cc
-            go false e = let z : ◌≡◌ {A = ℕ} 0 1 = cc in absurd (omega arith)
+            go false e = absurd cc
 
         module _ (enough : None ≡ short_of Sheet (length sheet) (length nodes)) where
           pub short_pending : (fault : ShortFault) (r : Result Running BeginFault) → Some fault ≡ short_of Pending (length pending) 1 → IsErrAnd r (λ e. e ≡ Short fault)
@@ -103,9 +103,9 @@ module _ (book : List Node) (place : Place) (sheet : List CoreNode) (pending : L
             where
               go : (s t : Bool) → ◌≡◌ {A = Option ShortFault} None (cond s (Some (record { list = Sheet; needed = length nodes })) None) → Some fault ≡ cond t (Some (record { list = Pending; needed = 1 })) None
                   → cond s (Some (Short (record { list = Sheet; needed = length nodes }))) (cond t (Some (Short (record { list = Pending; needed = 1 }))) None) ≡ Some (Short fault)
-              go true t d e = let z : ◌≡◌ {A = ℕ} 0 1 = cc in absurd (omega arith)
+              go true t d e = absurd cc
               go false true d e = cc
-              go false false d e = let z : ◌≡◌ {A = ℕ} 0 1 = cc in absurd (omega arith)
+              go false false d e = absurd cc
 
           pub has_begun : (front : List CoreNode) (item : Item) → None ≡ short_of Pending (length pending) 1 → front ≡ nodes → item ≡ first_item w.root
               → Begins book place sheet pending (Ok (record { cores = length nodes; sets = n; steps = 0; states = 0; arcs = 0; pending = 1 }))
@@ -121,6 +121,6 @@ module _ (book : List Node) (place : Place) (sheet : List CoreNode) (pending : L
               go : (s t : Bool) → ltb (length pending) 1 ≡ t → ◌≡◌ {A = Option ShortFault} None (cond s (Some (record { list = Sheet; needed = length nodes })) None)
                   → ◌≡◌ {A = Option ShortFault} None (cond t (Some (record { list = Pending; needed = 1 })) None)
                   → (◌≡◌ {A = Option BeginFault} (cond s (Some (Short (record { list = Sheet; needed = length nodes }))) (cond t (Some (Short (record { list = Pending; needed = 1 }))) None)) None) × (0 < length pending)
-              go true t q d e = let z : ◌≡◌ {A = ℕ} 0 1 = cc in absurd (omega arith)
-              go false true q d e = let z : ◌≡◌ {A = ℕ} 0 1 = cc in absurd (omega arith)
+              go true t q d e = absurd cc
+              go false true q d e = absurd cc
               go false false q d e = (refl, omega (arith, ltb-false _ _ q))

@@ -1,7 +1,6 @@
 -- The steps made, as the call tells of them.
 use Rattle.std.proofs.Common.{◌≡◌, ℕ, ◌≤◌, List, ◌++◌, length, take, drop, None, sym, refl, ap, ◌∙◌, subst, arith}
-use Rattle.std.proofs.lemmas.List.{reverse-reverse}
-use Rattle.std.proofs.lemmas.List.{length-take-le, length-reverse, take-append-drop}
+use Rattle.std.proofs.lemmas.List.{reverse-reverse, length-take-le, length-reverse, take-append-drop}
 use Rattle.automata.specs.Steps.{Config}
 use Rattle.automata.specs.declared.items.Arc.{Arc}
 use Rattle.automata.specs.declared.items.Item.{Item}

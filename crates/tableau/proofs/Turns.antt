@@ -1,5 +1,5 @@
 -- One step over the lists.
-use Rattle.std.proofs.Common.{◌≡◌, ℕ, ◌+◌, ◌-◌, ◌<◌, ◌≤◌, Bool, true, false, cond, ltb, List, ◌++◌, reverse, length, get_or, take, Some, None, Ok, Err, Option, Result, sym, refl, ap, ◌∙◌, subst, arith, length-append}
+use Rattle.std.proofs.Common.{◌≡◌, ◌+◌, ◌-◌, ◌<◌, ◌≤◌, Bool, true, false, cond, ltb, List, ◌++◌, reverse, length, get_or, take, Some, None, Ok, Err, Option, Result, sym, refl, ap, ◌∙◌, subst, arith, length-append}
 use Rattle.std.proofs.lemmas.List.{length-take-le, length-reverse}
 use Rattle.std.proofs.lemmas.Bool.{ltb-false}
 use Rattle.std.specs.Result.{IsErrAnd}
@@ -36,10 +36,10 @@ first_lack false false false false = refl
 
 none_lack : (a b c d : Bool) → None ≡ cond a (Some Steps) (cond b (Some States) (cond c (Some Arcs) (cond d (Some Pending) None)))
     → (a ≡ false) × (b ≡ false) × (c ≡ false) × (d ≡ false)
-none_lack true b c d e = let z : ◌≡◌ {A = ℕ} 0 1 = cc in absurd (omega arith)
-none_lack false true c d e = let z : ◌≡◌ {A = ℕ} 0 1 = cc in absurd (omega arith)
-none_lack false false true d e = let z : ◌≡◌ {A = ℕ} 0 1 = cc in absurd (omega arith)
-none_lack false false false true e = let z : ◌≡◌ {A = ℕ} 0 1 = cc in absurd (omega arith)
+none_lack true b c d e = absurd cc
+none_lack false true c d e = absurd cc
+none_lack false false true d e = absurd cc
+none_lack false false false true e = absurd cc
 none_lack false false false false e = (refl, refl, refl, refl)
 
 -- there is room for the plan

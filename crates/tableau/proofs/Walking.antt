@@ -16,7 +16,7 @@ use Rattle.tableau.specs.declared.translation.Lack.{Lack}
 use Rattle.tableau.proofs.Written.{top}
 
 -- what is read past the end
-abbrev none : Item
+abbrev pub none : Item
 none = item 0 empty empty empty
 
 abbrev stop : Config → Progressed → Advanced

@@ -1,5 +1,5 @@
 -- What a call of begin answers, and what it writes on the lists that it is lent.
-use Rattle.std.specs.Prelude.{◌≡◌, ℕ, ◌^◌, cond, List, ◌∷◌, ◌++◌, length, drop, Some, None, Ok, Err, Option, Result, nat_le, nat_lt}
+use Rattle.std.specs.Prelude.{◌≡◌, ℕ, ◌^◌, if◌then◌else◌, List, ◌∷◌, ◌++◌, length, drop, Some, None, Ok, Err, Option, Result, nat_le, nat_lt}
 use Rattle.automata.specs.Sets.{empty, set_of}
 use Rattle.automata.specs.Sheets.{Written}
 use Rattle.automata.specs.Steps.{item, untils_below}
@@ -27,17 +27,20 @@ untils w = untils_below w.sheet (cores w)
 -- the first list that is too short for a core form of n nodes
 abbrev pub short_for : ℕ → List CoreNode → List Item → Option BeginFault
 short_for n sheet pending =
-    cond (nat_lt (length sheet) n) (Some (Short (record { list = Sheet; needed = n })))
-    (cond (nat_lt (length pending) 1) (Some (Short (record { list = Pending; needed = 1 }))) None)
+    if nat_lt (length sheet) n then Some (Short (record { list = Sheet; needed = n }))
+    else if nat_lt (length pending) 1 then Some (Short (record { list = Pending; needed = 1 })) else None
 
--- the refusal that stands: the place, then the nodes (over 64), then the untils (over 16), then the lists
+-- the refusal of a core form: the nodes (over 64), then the untils (over 16), then the lists
+abbrev pub form_fault : Written → List CoreNode → List Item → Option BeginFault
+form_fault w sheet pending =
+    if nat_le (cores w) MOST_CORES
+    then if nat_le (untils w) MOST_UNTILS then short_for (cores w) sheet pending else Some (TooManyUntils (untils w))
+    else Some (Form TooManyNodes)
+
+-- the refusal that stands: the place, then what is refused of its core form
 abbrev pub begin_fault : List Node → Place → List CoreNode → List Item → Option BeginFault
 begin_fault book place sheet pending =
-    cond (nat_lt place.index (length book))
-    (cond (nat_le (cores (form_at book place)) MOST_CORES)
-    (cond (nat_le (untils (form_at book place)) MOST_UNTILS) (short_for (cores (form_at book place)) sheet pending) (Some (TooManyUntils (untils (form_at book place)))))
-    (Some (Form TooManyNodes)))
-    (Some (Form (NotInBook place)))
+    if nat_lt place.index (length book) then form_fault (form_at book place) sheet pending else Some (Form (NotInBook place))
 
 -- the numbers of a translation that has begun
 abbrev pub begun : Written → Standing

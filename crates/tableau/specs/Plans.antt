@@ -1,5 +1,5 @@
 -- What one step adds, found out before anything is written.
-use Rattle.std.specs.Prelude.{◌≡◌, ℕ, ◌+◌, ◌-◌, cond, ◌&&◌, List, [], ◌∷◌, ◌++◌, length, ◌==◌, nat_le, Some, None, Option, slice_set}
+use Rattle.std.specs.Prelude.{◌≡◌, ℕ, ◌+◌, ◌-◌, if◌then◌else◌, ◌&&◌, List, [], ◌∷◌, ◌++◌, length, ◌==◌, nat_le, Some, None, Option, slice_set}
 use Rattle.std.specs.List.{list_any, position}
 use Rattle.automata.specs.Sets.{empty}
 use Rattle.automata.specs.Steps.{Config, item, arc, state_of, step_on, is_state, same_arc}
@@ -37,7 +37,7 @@ pub record Puts (put : List Item) (p : Plan) : Type 0 where
 
 -- the plan where there is a state with this Old and Next: its arc, unless it is there; one from above the n states counts as absent
 abbrev pub join_plan : ℕ → Arc → List Arc → Plan
-join_plan n a arcs = cond (nat_le a.from n && list_any (λ b. same_arc b a) arcs) Nothing (Join a)
+join_plan n a arcs = if nat_le a.from n && list_any (λ b. same_arc b a) arcs then Nothing else Join a
 
 -- the plan where New is empty, by the place of the state with this Old and Next: an arc to it, or a new state with an arc and an item
 abbrev pub settle_plan_at : Option ℕ → List CoreNode → ℕ → List Arc → Item → Plan

@@ -1,5 +1,5 @@
 -- The refusals of begin and step, and their numbers.
-use Rattle.std.specs.Prelude.{ℕ, cond, Some, None, Option, nat_lt}
+use Rattle.std.specs.Prelude.{ℕ, if◌then◌else◌, Some, None, Option, nat_lt}
 use Rattle.coreform.specs.Forms.{form_number}
 use Rattle.tableau.specs.declared.fault.BeginFault.{BeginFault}
 use Rattle.tableau.specs.declared.fault.BeginFault.TheVariants.{Form, TooManyUntils, Short}
@@ -8,7 +8,7 @@ use Rattle.tableau.specs.declared.fault.ShortFault.{ShortFault}
 
 -- the refusal of a list with this length: it is shorter than needed
 abbrev pub short_of : LentList → ℕ → ℕ → Option ShortFault
-short_of list length needed = cond (nat_lt length needed) (Some (record { list = list; needed = needed })) None
+short_of list length needed = if nat_lt length needed then Some (record { list = list; needed = needed }) else None
 
 -- of a refusal of step
 abbrev pub step_number : ShortFault → ℕ

@@ -1,5 +1,5 @@
 -- Counts of what is in use, and the room there is.
-use Rattle.std.specs.Prelude.{◌+◌, ◌-◌, ◌≤◌, cond, length, Some, None, Option, nat_lt}
+use Rattle.std.specs.Prelude.{◌+◌, ◌-◌, ◌≤◌, if◌then◌else◌, length, Some, None, Option, nat_lt}
 use Rattle.tableau.specs.declared.limits.TheConstants.{MOST_STEPS, MOST_STATES, MOST_ARCS, MOST_PENDING}
 use Rattle.tableau.specs.Plans.{new_states, new_arcs, new_items}
 use Rattle.tableau.specs.declared.plans.Plan.{Plan}
@@ -20,10 +20,10 @@ counts_with p c = record {
 -- the first of the four that there would be too much of: over 4294967295 steps, or more of a list than there is room for
 abbrev pub lack_of : Plan → Counts → Space → Option Lack
 lack_of p c room =
-    cond (nat_lt MOST_STEPS (c.steps + 1)) (Some Steps)
-    (cond (nat_lt room.states (c.states + length (new_states p))) (Some States)
-    (cond (nat_lt room.arcs (c.arcs + length (new_arcs p))) (Some Arcs)
-    (cond (nat_lt room.pending (c.pending - 1 + length (new_items p))) (Some Pending) None)))
+    if nat_lt MOST_STEPS (c.steps + 1) then Some Steps
+    else if nat_lt room.states (c.states + length (new_states p)) then Some States
+    else if nat_lt room.arcs (c.arcs + length (new_arcs p)) then Some Arcs
+    else if nat_lt room.pending (c.pending - 1 + length (new_items p)) then Some Pending else None
 
 -- the counts are within the room, and the room within what a translation may use: 1023 states, 8191 arcs and 1024 pending items
 pub record Within (c : Counts) (room : Space) : Type 0 where

@@ -1,5 +1,5 @@
 -- What a call of step answers, and what it makes of the lists that it is lent.
-use Rattle.std.specs.Prelude.{◌≡◌, ℕ, min, cond, List, ◌++◌, reverse, length, take, drop, Some, None, Ok, Err, Option, Result, nat_lt}
+use Rattle.std.specs.Prelude.{◌≡◌, ℕ, min, if◌then◌else◌, List, ◌++◌, reverse, length, take, drop, Some, None, Ok, Err, Option, Result, nat_lt}
 use Rattle.automata.specs.Steps.{Config, Room, Lacking, Progressed, finished, running, no_room, Advanced, advance}
 use Rattle.automata.specs.Steps.{steps as no_steps, states as no_states, arcs as no_arcs, pending as no_pending}
 use Rattle.automata.specs.declared.items.Arc.{Arc}
@@ -81,10 +81,10 @@ advanced_by allowance s l = advance (take s.cores l.sheet) (room_of l) allowance
 -- the first list that is shorter than what is in use of it, with the length that it needs
 abbrev pub short_list : Standing → Lists → Option ShortFault
 short_list s l =
-    cond (nat_lt (length l.sheet) s.cores) (Some (record { list = Sheet; needed = s.cores }))
-    (cond (nat_lt (length l.states) s.states) (Some (record { list = States; needed = s.states }))
-    (cond (nat_lt (length l.arcs) s.arcs) (Some (record { list = Arcs; needed = s.arcs }))
-    (cond (nat_lt (length l.pending) s.pending) (Some (record { list = Pending; needed = s.pending })) None)))
+    if nat_lt (length l.sheet) s.cores then Some (record { list = Sheet; needed = s.cores })
+    else if nat_lt (length l.states) s.states then Some (record { list = States; needed = s.states })
+    else if nat_lt (length l.arcs) s.arcs then Some (record { list = Arcs; needed = s.arcs })
+    else if nat_lt (length l.pending) s.pending then Some (record { list = Pending; needed = s.pending }) else None
 
 -- ---- the answer: what it says, and the numbers of the translation that comes back
 pub data Answer : Type 0 where

@@ -1,5 +1,5 @@
 -- Step after step over the lists, by the counts of what is in use.
-use Rattle.std.specs.Prelude.{◌≡◌, ℕ, ◌≤◌, min, cond, List, reverse, length, take, drop, Some, None, Ok, Err, Option, Result, ◌==◌}
+use Rattle.std.specs.Prelude.{◌≡◌, ℕ, ◌≤◌, min, if◌then◌else◌, List, reverse, length, take, drop, Some, None, Ok, Err, Option, Result, ◌==◌}
 use Rattle.automata.specs.Steps.{Config, Room, Progressed, finished, running, no_room, Advanced, within, one_step, advance}
 use Rattle.automata.specs.declared.items.Arc.{Arc}
 use Rattle.automata.specs.declared.items.Item.{Item}
@@ -33,7 +33,7 @@ room_in s = record { steps = MOST_STEPS; states = s.states; arcs = s.arcs; pendi
 -- the answer where the steps have stopped for this lack, or for none, with so many items pending
 abbrev pub answer_at : Option Lack → ℕ → Progressed
 answer_at (Some l) pending = no_room (lacking_of l)
-answer_at None pending = cond (pending == 0) finished running
+answer_at None pending = if pending == 0 then finished else running
 
 -- the entries beyond the counts are as they were, and the lists as long; of the pending items only the length
 pub record Kept (r : Counts) (ss : List State) (xs : List Arc) (ps : List Item) (ss' : List State) (xs' : List Arc) (ps' : List Item) : Type 0 where

@@ -1,5 +1,5 @@
 // The beginning of a translation.
-ghost use Rattle.std.specs.Prelude.{◌≡◌, ℕ, ◌<◌, ◌≤◌, ◌++◌, length, drop};
+ghost use Rattle.std.specs.Prelude.{◌≡◌, ◌<◌};
 ghost use Rattle.tableau.specs.Beginning.{first_item, begins, Begins};
 ghost use Rattle.tableau.specs.Limits.{Limits};
 

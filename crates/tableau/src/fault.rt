@@ -56,6 +56,7 @@ pub enum BeginFault {
     Short(ShortFault),
 }
 
+// Kept: no plainer: a derive's From has no contract, and clauses name the error.
 impl From<FormFault> for BeginFault {
     ghost from_gives = { λ x y. y ≡ NoForm x };
 
@@ -64,6 +65,7 @@ impl From<FormFault> for BeginFault {
     }
 }
 
+// Kept: no plainer: a derive's From has no contract, and clauses name the error.
 impl From<ShortFault> for BeginFault {
     ghost from_gives = { λ x y. y ≡ TooShort x };
 

@@ -1,6 +1,6 @@
 // What a state keeps of its Old.
 ghost use Rattle.std.specs.Prelude.{◌≡◌, ◌<◌, length};
-ghost use Rattle.automata.specs.Steps.{on_bit, off_bit, signals, on_signals, off_signals, untils_below, mark_of, marks_below, state_of};
+ghost use Rattle.automata.specs.Steps.{signals, on_signals, off_signals, untils_below, mark_of, marks_below, state_of};
 
 use crate::sets::contains;
 use crate::sheets::{Checked, Sheet};
@@ -61,6 +61,7 @@ impl Sheet<'_> {
     {
         let mut borne = 0;
         let mut untils = 0;
+        // Kept: the new form is no plainer: k is a core number that is looked for in Old, and node_at reads its node.
         for k in 0..self.nodes.len() as u8 {
             let read = self.node_at(k);
             borne |= mark_of(read, k, old, untils);

@@ -1,4 +1,4 @@
-// The most of each list that a translation uses: docs/TRANSLATION.md.
+// The most that a translation may have: nodes, untils, steps, and entries of each list. docs/TRANSLATION.md.
 
 use coreform::draft::MOST_NODES;
 

@@ -12,7 +12,7 @@ use automata::items::{Arc, Item, State};
 use automata::nodes::{CoreNode, CoreSet};
 
 // What joins the lists in the place of the item that was put in last.
-// Kept: the new form is no plainer: the variants are data, which the methods match.
+// Kept: the new form is no plainer: a plan is counted before it is written, and a closure would be made twice.
 #[derive(Clone, Copy)]
 pub(crate) enum Plan {
     Nothing,
@@ -57,9 +57,7 @@ fn split(read: Checked, k: u8, item: Item) -> Plan
     requires { k < 64 }
     ensures { Puts (split read.node k item.source item.new item.old item.next) result }
 {
-    let new = item.new;
-    let old = item.old;
-    let next = item.next;
+    let Item { new, old, next, .. } = item;
     match read.node {
         CoreNode::False => Plan::Nothing,
         CoreNode::True | CoreNode::On(_) | CoreNode::Off(_) => Plan::One(item),

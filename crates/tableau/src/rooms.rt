@@ -8,6 +8,7 @@ use crate::limits::MOST_STEPS;
 use crate::plans::Plan;
 use crate::translation::Lack;
 
+// How many steps are made, and how many entries of each list are in use.
 #[derive(Clone, Copy)]
 pub(crate) struct Counts {
     pub steps: u32,
@@ -61,6 +62,7 @@ impl Plan {
 }
 
 // Refuses a plan for which there is no room, by the first of the four that lacks.
+// Kept: no plainer: a type of such counts would be tied to a space, and a finished count is 0.
 pub(crate) fn check_room(plan: &Plan, counts: Counts, space: Space) -> Result<(), Lack>
     requires inside { Within counts space }
     requires some { 0 < counts.pending }

@@ -14,6 +14,7 @@ pub(crate) fn contains(members: CoreSet, k: u8) -> bool
     (members.bits >> k) & 1 == 1
 }
 
+// A number joins.
 pub(crate) fn insert(members: CoreSet, k: u8) -> CoreSet
     requires { k < 64 }
     ensures { result ≡ inserted members k }

@@ -1,7 +1,6 @@
 // Reading a sheet of at most 64 core nodes.
 ghost use Rattle.std.specs.Prelude.{◌≡◌, ◌≤◌, true, length};
 ghost use Rattle.automata.specs.Steps.{node_on, both_below, sound_on};
-ghost use Rattle.automata.specs.Steps.{both_below, sound_on};
 ghost use Rattle.tableau.specs.declared.limits.TheConstants.{MOST_CORES};
 
 use automata::nodes::CoreNode;
@@ -20,6 +19,7 @@ pub(crate) struct Checked {
     ghost sound: { sound_on MOST_CORES node ≡ true },
 }
 
+// Whether both numbers are below n.
 fn both_below(n: usize, a: u8, b: u8) -> bool
     ensures { result ≡ both_below n a b }
 {

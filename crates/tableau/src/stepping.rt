@@ -72,24 +72,22 @@ pub fn step(
     ensures steps { Steps (standing translation) (lists sheet.now states.old arcs.old pending.old) allowance (told result) (lists sheet.now states.new arcs.new pending.new) }
     ensures limits { Limits }
 {
-    match check_lists(&translation, sheet, states, arcs, pending) {
-        Err(fault) => Err(StepRefused { translation, fault }),
-        Ok(()) => {
-            let Running {
-                totals,
-                pending: waiting,
-            } = translation;
-            let used = Sheet {
-                nodes: &sheet[..totals.cores as usize],
-            };
-            let start = Counts {
-                steps: totals.steps,
-                states: totals.states as usize,
-                arcs: totals.arcs as usize,
-                pending: waiting as usize,
-            };
-            let stopped = advance(start, &used, states, arcs, pending, allowance);
-            Ok(progress(totals, stopped))
-        }
+    if let Err(fault) = check_lists(&translation, sheet, states, arcs, pending) {
+        return Err(StepRefused { translation, fault });
     }
+    let Running {
+        totals,
+        pending: waiting,
+    } = translation;
+    let used = Sheet {
+        nodes: &sheet[..totals.cores as usize],
+    };
+    let start = Counts {
+        steps: totals.steps,
+        states: totals.states as usize,
+        arcs: totals.arcs as usize,
+        pending: waiting as usize,
+    };
+    let stopped = advance(start, &used, states, arcs, pending, allowance);
+    Ok(progress(totals, stopped))
 }

@@ -12,7 +12,7 @@ pub mod underway;
 
 /// What is told of each translation: the nodes of its core form and its mark sets, the steps made
 /// since it began, and how many entries of the lists of states and of arcs are in use.
-#[derive(Clone, Copy)]
+#[derive(Clone, Copy, PartialEq, Eq, Debug)]
 pub struct Totals {
     pub(crate) cores: u8,
     pub(crate) sets: u8,

@@ -17,6 +17,7 @@ pub(crate) struct Stopped {
     pub lack: Option<Lack>,
 }
 
+// How many entries of each list may be in use: its length, and no more than a translation may use.
 fn space_in(states: &[State], arcs: &[Arc], pending: &[Item]) -> Space
     ensures { result ≡ space_of states.now arcs.now pending.now }
 {
@@ -28,7 +29,8 @@ fn space_in(states: &[State], arcs: &[Arc], pending: &[Item]) -> Space
 }
 
 // One step: there is a pending item.
-// Kept: the new form is no plainer: with the lists in a type, each call would promise their lengths and their loans.
+// Kept: the new form is no plainer: with the lists in a type, each call would promise their lengths and their loans;
+// a type of counts would be tied to a space, and a finished count is 0.
 fn turn(
     counts: Counts,
     space: Space,

@@ -10,6 +10,7 @@ use rules::node::Place;
 
 impl FormFault {
     /// The number of the refusal: 9 or 7. docs/REFUSALS.md has them all.
+    // Kept: a public promise, and docs/REFUSALS.md lists the numbers.
     pub fn number(&self) -> u8
         ensures { result ≡ form_number self.now }
     {
@@ -46,7 +47,6 @@ pub fn core_form(book: &Book, place: Place) -> Result<CoreForm, FormFault>
     }
     let mut writer = Writer::new(book);
     let root = writer.write(place, true).ok_or(FormFault::TooManyNodes)?;
-    writer.draft.few();
     Ok(CoreForm {
         nodes: writer.draft,
         root,

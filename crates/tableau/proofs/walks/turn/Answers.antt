@@ -1,11 +1,6 @@
-use Rattle.automata.specs.Sets.{empty}
-use Rattle.automata.specs.Steps.{item}
-use Rattle.automata.specs.declared.items.Item.{Item}
 use Rattle.tableau.proofs.Turns.{stuck, went}
+use Rattle.tableau.proofs.Walking.{none}
 use Rattle.tableau.proofs.walks.turn.Goals as goal
-
-abbrev none : Item
-none = item 0 empty empty empty
 
 pub returns-in_err-check_room : goal.returns-in_err-check_room
 returns-in_err-check_room c =

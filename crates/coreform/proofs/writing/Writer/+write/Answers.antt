@@ -40,7 +40,7 @@ returns-in_err-made-in-Put-clause-writes t c =
     let book = c.args.self.now.book.now in
     let inv = c.loop-at.invariant in
     let whole = recipe_writes book _ c.nodes.ensures.sound.ordered c.nodes.ensures.nodes c.args.place.index c.requires.entered c.args.polarity _ (c.steps-steps.ensures.steps ∙ c.recipe_of-recipe.ensures) c.args.self.now.draft in
-    let lost : 64 < length (stepped (rule_at book) (get_or c.steps-steps.result.now c.loop-at.at no_step) (take c.loop-at.at c.loop-at.made) c.loop-at.self.draft).sheet = rw (c.in-Put.is, ← c.node_over.ensures) c.in_err-made-in-Put.ensures in
+    let lost : 64 < length (stepped (rule_at book) (get_or c.steps-steps.result.now c.loop-at.at no_step) (take c.loop-at.at c.loop-at.made) c.loop-at.self.draft).sheet = rw (c.in-Put.is, ← c.node_over.ensures) c.in_err-made-in-Put.ensures.drafted in
     rw c.from_residual-in_err-made-in-Put.ensures (too_long (rule_at book) _ _ c.loop-at.at c.loop-at.made c.loop-at.self.draft inv.reached no_step c.loop-at-test.true _ whole 64 lost)
 
 pub loop-at-preserved : goal.loop-at-preserved
@@ -62,7 +62,7 @@ loop-at-preserved t c =
             long = length-set list at _ ∙ inv.long;
           }
       | in-Put+in_ok-made-in-Put w ↦
-          let wrote = w.in_ok-made-in-Put.ensures in
+          let wrote = w.in_ok-made-in-Put.ensures.drafted in
           let puts = ap (λ s. stepped rule s (take at list) draft) w.in-Put.is ∙ ap (λ n. put n draft) (sym w.node_over.ensures) in
           rw (w.self-is, w.made-is) record {
             reached = more w.put.new.self _ (omega (arith, inv.long)) (puts ∙ wrote);
