@@ -2,7 +2,7 @@
 use Rattle.std.specs.Prelude.{ℕ, ◌+◌, ◌*◌, ◌/◌, ◌%◌, Bool, List, ◌==◌, slice_index}
 use Rattle.semantics.specs.Meaning.{bit}
 
--- the word and the bit of a place at a scan
+-- the word of a place at a scan
 abbrev pub word_of : ℕ → ℕ → ℕ
 word_of scan place = 4 * scan + place / 64
 

@@ -66,6 +66,7 @@ fn first_sweep<R: Recording>(node: Node, recording: &R, work: &[u64]) -> bool
 }
 
 // Writes the column of a place, which is empty before, from those of its operands.
+// Kept: a rule of the project: a `Place` may name nothing that is entered, so no type bounds it.
 pub(crate) fn fill_column<R: Recording>(node: Node, place: Place, recording: &R, work: &mut [u64])
     requires few { place.index < 256 }
     requires lower { fits_at node place.index ≡ true }

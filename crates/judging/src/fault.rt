@@ -16,8 +16,10 @@ pub enum LentList {
 #[derive(Clone, Copy, PartialEq, Eq, Debug)]
 pub enum JudgeFault {
     /// 9: nothing is entered at this place
+    // Kept: a rule of the project: each crate's fault has its own refusal of such a place.
     NotInBook(Place),
     /// 11: this list is shorter than the length that it needs, in words
+    // Kept: a public promise: the fault has the list and its length.
     Short(LentList, usize),
 }
 
@@ -26,6 +28,7 @@ impl JudgeFault {
     pub fn number(&self) -> u8
         ensures { result ≡ judge_number self.now }
     {
+        // Kept: a public promise, and docs/REFUSALS.md lists the numbers.
         match *self {
             JudgeFault::NotInBook(_) => 9,
             JudgeFault::Short(_, _) => 11,

@@ -1,8 +1,8 @@
 // Judging a rule on a recording.
 #![tactic(auto)]
 
-pub mod column;
+pub(crate) mod column;
 pub mod fault;
 pub mod judge;
 pub mod truths;
-pub mod turn;
+pub(crate) mod turn;

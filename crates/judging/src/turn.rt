@@ -6,7 +6,7 @@ use rules::node::{BinaryOp, Node, UnaryOp};
 
 /// What a node says of a scan: it is true there where it holds, or where it passes on and is true at the next
 /// scan. The table is in `docs/VERDICTS.md`.
-#[derive(Clone, Copy)]
+#[derive(Clone, Copy, PartialEq, Eq, Debug)]
 pub struct Turn {
     pub hold: bool,
     pub pass: bool,
@@ -21,6 +21,7 @@ impl Turn {
     }
 }
 
+// What an operator of one operand says of a scan, from what the operand says there and at the next one.
 pub(crate) fn unary_turn(op: UnaryOp, now: bool, next: bool) -> Turn
     ensures hold { result.hold ≡ unary_hold op now next }
     ensures pass { result.pass ≡ unary_pass op }
@@ -45,6 +46,7 @@ pub(crate) fn unary_turn(op: UnaryOp, now: bool, next: bool) -> Turn
     }
 }
 
+// What an operator of two operands says of a scan, from what the operands say there.
 pub(crate) fn binary_turn(op: BinaryOp, a: bool, b: bool) -> Turn
     ensures hold { result.hold ≡ binary_hold op a b }
     ensures pass { result.pass ≡ binary_pass op a }

@@ -5,7 +5,7 @@ use Rattle.std.proofs.lemmas.Bool.{ltb-true, and_parts}
 use Rattle.rules.specs.Tables.{fits_at, Ordered}
 use Rattle.rules.specs.declared.node.Node.{Node}
 use Rattle.rules.specs.declared.node.Node.TheVariants.{True, False, Signal, Unary, Binary}
-use Rattle.semantics.specs.Rules.{Rule, Top, Bottom, Atom, One, Two, built, rule_within, rule_at, Stands, SameRule, trues, falses, signals, unaries, binaries}
+use Rattle.semantics.specs.Rules.{Rule, One, Two, built, rule_within, rule_at, Stands, SameRule, trues, falses, signals, unaries, binaries}
 
 built_same : (f g : ℕ → Rule) (n : Node) (k : ℕ) → fits_at n k ≡ true → ((a : ℕ) → a < k → f a ≡ g a) → built f n ≡ built g n
 built_same f g True k h s = refl
@@ -47,50 +47,39 @@ same_tree B B' o o' {k} {k'} (unaries {a = a} {a' = a'} {op = op} h h' x) =
 same_tree B B' o o' {k} {k'} (binaries {a = a} {a' = a'} {b = b} {b' = b'} {op = op} h h' x y) =
     rule_opens B o k (Binary op a b) h ∙ ap₂ (Two op) (same_tree B B' o o' x) (same_tree B B' o o' y) ∙ sym (rule_opens B' o' k' (Binary op a' b') h')
 
--- rules that differ at the head
-abbrev head : Rule → ℕ
-head Top = 0
-head Bottom = 1
-head (Atom s) = 2
-head (One op a) = 3
-head (Two op a b) = 4
-
 module _ (B B' : List Node) (o : Ordered B) (o' : Ordered B') where
   -- the operands of the nodes at k and k' hold the same rules where their trees are equal
   abbrev LowerSame : ℕ → Type 0
   LowerSame k = (a a' : ℕ) → a < k → a' < length B' → rule_at B a ≡ rule_at B' a' → SameRule B B' a a'
 
-  apart : (m m' : ℕ) {X : Type 0} → m < m' → m ≡ m' → X
-  apart m m' h e = absurd (omega arith)
-
   by_nodes : (k k' : ℕ) → LowerSame k → (n n' : Node) → Stands B k n → Stands B' k' n' → fits_at n k ≡ true → fits_at n' k' ≡ true → built (rule_at B) n ≡ built (rule_at B') n' → SameRule B B' k k'
   by_nodes k k' r True True h h' f f' z = trues h h'
-  by_nodes k k' r True False h h' f f' z = apart 0 1 (omega arith) (ap head z)
-  by_nodes k k' r True (Signal s') h h' f f' z = apart 0 2 (omega arith) (ap head z)
-  by_nodes k k' r True (Unary op' a') h h' f f' z = apart 0 3 (omega arith) (ap head z)
-  by_nodes k k' r True (Binary op' a' b') h h' f f' z = apart 0 4 (omega arith) (ap head z)
-  by_nodes k k' r False True h h' f f' z = apart 0 1 (omega arith) (sym (ap head z))
+  by_nodes k k' r True False h h' f f' z = absurd cc
+  by_nodes k k' r True (Signal s') h h' f f' z = absurd cc
+  by_nodes k k' r True (Unary op' a') h h' f f' z = absurd cc
+  by_nodes k k' r True (Binary op' a' b') h h' f f' z = absurd cc
+  by_nodes k k' r False True h h' f f' z = absurd cc
   by_nodes k k' r False False h h' f f' z = falses h h'
-  by_nodes k k' r False (Signal s') h h' f f' z = apart 1 2 (omega arith) (ap head z)
-  by_nodes k k' r False (Unary op' a') h h' f f' z = apart 1 3 (omega arith) (ap head z)
-  by_nodes k k' r False (Binary op' a' b') h h' f f' z = apart 1 4 (omega arith) (ap head z)
-  by_nodes k k' r (Signal s) True h h' f f' z = apart 0 2 (omega arith) (sym (ap head z))
-  by_nodes k k' r (Signal s) False h h' f f' z = apart 1 2 (omega arith) (sym (ap head z))
+  by_nodes k k' r False (Signal s') h h' f f' z = absurd cc
+  by_nodes k k' r False (Unary op' a') h h' f f' z = absurd cc
+  by_nodes k k' r False (Binary op' a' b') h h' f f' z = absurd cc
+  by_nodes k k' r (Signal s) True h h' f f' z = absurd cc
+  by_nodes k k' r (Signal s) False h h' f f' z = absurd cc
   by_nodes k k' r (Signal s) (Signal s') h h' f f' z = let q : s' ≡ s = cc in signals h (h'.0, h'.1 ∙ ap Signal q)
-  by_nodes k k' r (Signal s) (Unary op' a') h h' f f' z = apart 2 3 (omega arith) (ap head z)
-  by_nodes k k' r (Signal s) (Binary op' a' b') h h' f f' z = apart 2 4 (omega arith) (ap head z)
-  by_nodes k k' r (Unary op a) True h h' f f' z = apart 0 3 (omega arith) (sym (ap head z))
-  by_nodes k k' r (Unary op a) False h h' f f' z = apart 1 3 (omega arith) (sym (ap head z))
-  by_nodes k k' r (Unary op a) (Signal s') h h' f f' z = apart 2 3 (omega arith) (sym (ap head z))
+  by_nodes k k' r (Signal s) (Unary op' a') h h' f f' z = absurd cc
+  by_nodes k k' r (Signal s) (Binary op' a' b') h h' f f' z = absurd cc
+  by_nodes k k' r (Unary op a) True h h' f f' z = absurd cc
+  by_nodes k k' r (Unary op a) False h h' f f' z = absurd cc
+  by_nodes k k' r (Unary op a) (Signal s') h h' f f' z = absurd cc
   by_nodes k k' r (Unary op a) (Unary op' a') h h' f f' z =
       let q : op' ≡ op = cc in
       let u : rule_at B a.index ≡ rule_at B' a'.index = cc in
       unaries h (h'.0, h'.1 ∙ ap (λ x. Unary x a') q) (r a.index a'.index (ltb-true _ _ f) (omega (arith, ltb-true _ _ f', h'.0)) u)
-  by_nodes k k' r (Unary op a) (Binary op' a' b') h h' f f' z = apart 3 4 (omega arith) (ap head z)
-  by_nodes k k' r (Binary op a b) True h h' f f' z = apart 0 4 (omega arith) (sym (ap head z))
-  by_nodes k k' r (Binary op a b) False h h' f f' z = apart 1 4 (omega arith) (sym (ap head z))
-  by_nodes k k' r (Binary op a b) (Signal s') h h' f f' z = apart 2 4 (omega arith) (sym (ap head z))
-  by_nodes k k' r (Binary op a b) (Unary op' a') h h' f f' z = apart 3 4 (omega arith) (sym (ap head z))
+  by_nodes k k' r (Unary op a) (Binary op' a' b') h h' f f' z = absurd cc
+  by_nodes k k' r (Binary op a b) True h h' f f' z = absurd cc
+  by_nodes k k' r (Binary op a b) False h h' f f' z = absurd cc
+  by_nodes k k' r (Binary op a b) (Signal s') h h' f f' z = absurd cc
+  by_nodes k k' r (Binary op a b) (Unary op' a') h h' f f' z = absurd cc
   by_nodes k k' r (Binary op a b) (Binary op' a' b') h h' f f' z =
       let q : op' ≡ op = cc in
       let u : rule_at B a.index ≡ rule_at B' a'.index = cc in
