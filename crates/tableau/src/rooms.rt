@@ -1,12 +1,13 @@
 // Counts of what is in use, and the room there is.
 ghost use Rattle.std.specs.Prelude.{◌≡◌, ◌<◌, ◌≤◌, length};
 ghost use Rattle.std.specs.Result.{result_err};
-ghost use Rattle.tableau.specs.Plans.{new_states, new_arcs, new_items};
+ghost use Rattle.tableau.specs.Plans.{state_in, arc_in, listed, new_items};
 ghost use Rattle.tableau.specs.Rooms.{lack_of, Within};
 
 use crate::limits::MOST_STEPS;
 use crate::plans::Plan;
 use crate::translation::Lack;
+use automata::items::{Arc, State};
 
 // How many steps are made, and how many entries of each list are in use.
 #[derive(Clone, Copy)]
@@ -25,26 +26,32 @@ pub(crate) struct Space {
     pub pending: usize,
 }
 
+// How many entries these are: one or none.
+pub(crate) fn count<T: Copy>(entry: Option<T>) -> usize
+    ensures count { result ≡ length (listed entry) }
+    ensures few { result ≤ 1 }
+{
+    entry.is_some() as usize
+}
+
 impl Plan {
-    // How many states it adds.
-    pub(crate) fn new_states(&self) -> usize
-        ensures count { result ≡ length (new_states self.now) }
-        ensures few { result ≤ 2 }
+    // The state that it adds.
+    pub(crate) fn state(&self) -> Option<State>
+        ensures { result ≡ state_in self.now }
     {
-        match self {
-            Plan::Make(_, _, _) => 1,
-            _ => 0,
+        match *self {
+            Plan::Make(state, _, _) => Some(state),
+            _ => None,
         }
     }
 
-    // How many arcs it adds.
-    pub(crate) fn new_arcs(&self) -> usize
-        ensures count { result ≡ length (new_arcs self.now) }
-        ensures few { result ≤ 2 }
+    // The arc that it adds.
+    pub(crate) fn arc(&self) -> Option<Arc>
+        ensures { result ≡ arc_in self.now }
     {
-        match self {
-            Plan::Join(_) | Plan::Make(_, _, _) => 1,
-            _ => 0,
+        match *self {
+            Plan::Join(arc) | Plan::Make(_, arc, _) => Some(arc),
+            _ => None,
         }
     }
 
@@ -70,9 +77,9 @@ pub(crate) fn check_room(plan: &Plan, counts: Counts, space: Space) -> Result<()
 {
     if counts.steps == MOST_STEPS {
         Err(Lack::Steps)
-    } else if counts.states + plan.new_states() > space.states {
+    } else if counts.states + count(plan.state()) > space.states {
         Err(Lack::States)
-    } else if counts.arcs + plan.new_arcs() > space.arcs {
+    } else if counts.arcs + count(plan.arc()) > space.arcs {
         Err(Lack::Arcs)
     } else if counts.pending - 1 + plan.new_items() > space.pending {
         Err(Lack::Pending)
