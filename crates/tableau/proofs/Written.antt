@@ -4,7 +4,7 @@ use Rattle.std.proofs.lemmas.List.{reverse-append, take_more, take_more_set, dro
 use Rattle.automata.specs.declared.items.Arc.{Arc}
 use Rattle.automata.specs.declared.items.Item.{Item}
 use Rattle.automata.specs.declared.items.State.{State}
-use Rattle.tableau.specs.Plans.{state_in, arc_in, listed, new_states, new_arcs, new_items, entered_at, states_with, arcs_with, items_with}
+use Rattle.tableau.specs.Plans.{state_in, arc_in, items_in, listed, new_states, new_arcs, new_items, entered_at, states_with, arcs_with, items_with}
 use Rattle.tableau.specs.declared.plans.Plan.{Plan}
 use Rattle.tableau.specs.declared.plans.Plan.TheVariants.{Nothing, One, Two, Join, Make}
 
@@ -15,6 +15,10 @@ pub record Added {X : Type 0} (n : ℕ) (old new ys : List X) : Type 0 where
   pub long : length new ≡ length old
 
 module _ {X : Type 0} where
+  entered_long : (o : Option X) (n : ℕ) (xs : List X) → length (entered_at o n xs) ≡ length xs
+  entered_long None n xs = refl
+  entered_long (Some y) n xs = length-set xs n y
+
   added : (o : Option X) (n : ℕ) (xs : List X) → n + length (listed o) ≤ length xs → Added n xs (entered_at o n xs) (listed o)
   added None n xs h = let e : n + 0 ≡ n = omega arith in record { front = ap (λ k. take k xs) e ∙ sym (append-nil (take n xs)); rest = refl; long = refl }
   added (Some y) n xs h = record { front = take_more_set xs n y (omega arith); rest = drop-set-lt (n + 1) xs n y (omega arith); long = length-set xs n y }
@@ -56,8 +60,4 @@ items_put (Join a) n xs some h = nothing_put (n - 1) xs
 items_put (Make s a i) n xs some h = put_one (n - 1) xs i h
 
 pub items_long : (p : Plan) (n : ℕ) (xs : List Item) → length (items_with p n xs) ≡ length xs
-items_long Nothing n xs = refl
-items_long (One i) n xs = length-set xs (n - 1) i
-items_long (Two i j) n xs = length-set (set xs (n - 1) j) n i ∙ length-set xs (n - 1) j
-items_long (Join a) n xs = refl
-items_long (Make s a i) n xs = length-set xs (n - 1) i
+items_long p n xs = entered_long (items_in p).1 n _ ∙ entered_long (items_in p).0 (n - 1) xs

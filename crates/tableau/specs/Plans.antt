@@ -35,12 +35,16 @@ new_states p = listed (state_in p)
 abbrev pub new_arcs : Plan → List Arc
 new_arcs p = listed (arc_in p)
 
--- the items that it puts in, the one to be taken next first
+-- the items that it puts in: one in the place of the item taken out, and one above it, which is to be taken next
+abbrev pub items_in : Plan → Option Item × Option Item
+items_in (One i) = (Some i, None)
+items_in (Two i j) = (Some j, Some i)
+items_in (Make s a i) = (Some i, None)
+items_in p = (None, None)
+
+-- these as a list, the one to be taken next first
 abbrev pub new_items : Plan → List Item
-new_items (One i) = i ∷ []
-new_items (Two i j) = i ∷ j ∷ []
-new_items (Make s a i) = i ∷ []
-new_items p = []
+new_items p = listed (items_in p).1 ++ listed (items_in p).0
 
 -- the plan puts these items in, and adds nothing else
 pub record Puts (put : List Item) (p : Plan) : Type 0 where
@@ -90,7 +94,4 @@ arcs_with p n xs = entered_at (arc_in p) n xs
 
 -- n items are in use; the last of them is the one taken out, and its place is written first
 abbrev pub items_with : Plan → ℕ → List Item → List Item
-items_with (One i) n xs = slice_set xs (n - 1) i
-items_with (Two i j) n xs = slice_set (slice_set xs (n - 1) j) n i
-items_with (Make s a i) n xs = slice_set xs (n - 1) i
-items_with p n xs = xs
+items_with p n xs = entered_at (items_in p).1 n (entered_at (items_in p).0 (n - 1) xs)

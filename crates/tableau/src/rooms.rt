@@ -1,13 +1,13 @@
 // Counts of what is in use, and the room there is.
 ghost use Rattle.std.specs.Prelude.{◌≡◌, ◌<◌, ◌≤◌, length};
 ghost use Rattle.std.specs.Result.{result_err};
-ghost use Rattle.tableau.specs.Plans.{state_in, arc_in, listed, new_items};
+ghost use Rattle.tableau.specs.Plans.{state_in, arc_in, items_in, listed, new_items};
 ghost use Rattle.tableau.specs.Rooms.{lack_of, Within};
 
 use crate::limits::MOST_STEPS;
 use crate::plans::Plan;
 use crate::translation::Lack;
-use automata::items::{Arc, State};
+use automata::items::{Arc, Item, State};
 
 // How many steps are made, and how many entries of each list are in use.
 #[derive(Clone, Copy)]
@@ -55,16 +55,24 @@ impl Plan {
         }
     }
 
-    // How many items it puts in the place of the one taken.
+    // The items that it puts in: in the place of the one taken, and above it, to be taken next.
+    pub(crate) fn items(&self) -> (Option<Item>, Option<Item>)
+        ensures { result ≡ items_in self.now }
+    {
+        match *self {
+            Plan::One(item) | Plan::Make(_, _, item) => (Some(item), None),
+            Plan::Two(first, second) => (Some(second), Some(first)),
+            _ => (None, None),
+        }
+    }
+
+    // How many items it puts in.
     pub(crate) fn new_items(&self) -> usize
         ensures count { result ≡ length (new_items self.now) }
         ensures few { result ≤ 2 }
     {
-        match self {
-            Plan::One(_) | Plan::Make(_, _, _) => 1,
-            Plan::Two(_, _) => 2,
-            _ => 0,
-        }
+        let (here, above) = self.items();
+        count(here) + count(above)
     }
 }
 

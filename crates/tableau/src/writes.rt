@@ -1,5 +1,5 @@
 // Writing what a plan adds.
-ghost use Rattle.std.specs.Prelude.{◌≡◌, ◌+◌, ◌-◌, ◌<◌, ◌≤◌, length};
+ghost use Rattle.std.specs.Prelude.{◌≡◌, ◌+◌, ◌-◌, ◌<◌, ◌≤◌, length, IfSome};
 ghost use Rattle.tableau.specs.declared.limits.TheConstants.{MOST_STEPS};
 ghost use Rattle.tableau.specs.Plans.{listed, new_states, new_arcs, new_items, entered_at, states_with, arcs_with, items_with};
 ghost use Rattle.tableau.specs.Rooms.{counts_with};
@@ -10,7 +10,7 @@ use automata::items::{Arc, Item, State};
 
 // An entry, where there is one, behind the first n.
 fn enter<T: Copy>(list: &mut [T], n: usize, entry: Option<T>)
-    requires { n + length (listed entry) ≤ length list.old }
+    requires { IfSome entry (λ _. n < length list.old) }
     ensures { list.new ≡ entered_at entry n list.old }
 {
     if let Some(entry) = entry {
@@ -19,22 +19,6 @@ fn enter<T: Copy>(list: &mut [T], n: usize, entry: Option<T>)
 }
 
 impl Plan {
-    // The first n items are in use: from the place of the last of them on, which is taken.
-    fn write_items(&self, pending: &mut [Item], n: usize)
-        requires some { 0 < n }
-        requires room { n - 1 + length (new_items self.now) ≤ length pending.old }
-        ensures { pending.new ≡ items_with self.now n pending.old }
-    {
-        match *self {
-            Plan::One(item) | Plan::Make(_, _, item) => pending[n - 1] = item,
-            Plan::Two(first, second) => {
-                pending[n - 1] = second;
-                pending[n] = first;
-            }
-            _ => {}
-        }
-    }
-
     // Writes what the plan adds, for which there is room.
     pub(crate) fn write(
         &self,
@@ -55,7 +39,9 @@ impl Plan {
     {
         enter(states, counts.states, self.state());
         enter(arcs, counts.arcs, self.arc());
-        self.write_items(pending, counts.pending);
+        let (here, above) = self.items();
+        enter(pending, counts.pending - 1, here);
+        enter(pending, counts.pending, above);
         Counts {
             steps: counts.steps + 1,
             states: counts.states + count(self.state()),
