@@ -1,10 +1,9 @@
 -- What a plan writes, seen as the lists in use.
 use Rattle.std.proofs.Common.{◌≡◌, ℕ, ◌+◌, ◌-◌, ◌<◌, ◌≤◌, List, [], ◌∷◌, ◌++◌, reverse, length, get_or, take, drop, set, Some, None, Option, sym, refl, ap, ◌∙◌, append-nil, arith, length-set}
 use Rattle.std.proofs.lemmas.List.{reverse-append, take_more, take_more_set, drop-set-lt}
-use Rattle.automata.specs.declared.items.Arc.{Arc}
+use Rattle.std.specs.Option.{option_to_list}
 use Rattle.automata.specs.declared.items.Item.{Item}
-use Rattle.automata.specs.declared.items.State.{State}
-use Rattle.tableau.specs.Plans.{state_in, arc_in, items_in, listed, new_states, new_arcs, new_items, entered_at, states_with, arcs_with, items_with}
+use Rattle.tableau.specs.Plans.{items_in, new_items, entered_at, items_with}
 use Rattle.tableau.specs.declared.plans.Plan.{Plan}
 use Rattle.tableau.specs.declared.plans.Plan.TheVariants.{Nothing, One, Two, Join, Make}
 
@@ -19,7 +18,7 @@ module _ {X : Type 0} where
   entered_long None n xs = refl
   entered_long (Some y) n xs = length-set xs n y
 
-  added : (o : Option X) (n : ℕ) (xs : List X) → n + length (listed o) ≤ length xs → Added n xs (entered_at o n xs) (listed o)
+  pub added : (o : Option X) (n : ℕ) (xs : List X) → n + length (option_to_list o) ≤ length xs → Added n xs (entered_at o n xs) (option_to_list o)
   added None n xs h = let e : n + 0 ≡ n = omega arith in record { front = ap (λ k. take k xs) e ∙ sym (append-nil (take n xs)); rest = refl; long = refl }
   added (Some y) n xs h = record { front = take_more_set xs n y (omega arith); rest = drop-set-lt (n + 1) xs n y (omega arith); long = length-set xs n y }
 
@@ -41,12 +40,6 @@ module _ {X : Type 0} where
       ∙ reverse-append (take n (set xs m z)) (y ∷ [])
       ∙ ap (λ k. y ∷ reverse (take k (set xs m z))) e
       ∙ ap (λ t. y ∷ t) (put_one m xs z (omega arith))
-
-pub states_added : (p : Plan) (n : ℕ) (xs : List State) → n + length (new_states p) ≤ length xs → Added n xs (states_with p n xs) (new_states p)
-states_added p n xs h = added (state_in p) n xs h
-
-pub arcs_added : (p : Plan) (n : ℕ) (xs : List Arc) → n + length (new_arcs p) ≤ length xs → Added n xs (arcs_with p n xs) (new_arcs p)
-arcs_added p n xs h = added (arc_in p) n xs h
 
 nothing_put : (m : ℕ) (xs : List Item) → reverse (take (m + 0) xs) ≡ reverse (take m xs)
 nothing_put m xs = let e : m + 0 ≡ m = omega arith in ap (λ k. reverse (take k xs)) e

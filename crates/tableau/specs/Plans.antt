@@ -1,6 +1,7 @@
 -- What one step adds, found out before anything is written.
-use Rattle.std.specs.Prelude.{◌≡◌, ℕ, ◌+◌, ◌-◌, if◌then◌else◌, ◌&&◌, List, [], ◌∷◌, ◌++◌, length, ◌==◌, nat_le, Some, None, Option, slice_set}
+use Rattle.std.specs.Prelude.{◌≡◌, ℕ, ◌+◌, ◌-◌, if◌then◌else◌, ◌&&◌, List, [], ◌++◌, length, ◌==◌, nat_le, Some, None, Option, slice_set}
 use Rattle.std.specs.List.{list_any, position}
+use Rattle.std.specs.Option.{option_to_list}
 use Rattle.automata.specs.Sets.{empty}
 use Rattle.automata.specs.Steps.{Config, item, arc, state_of, step_on, is_state, same_arc}
 use Rattle.automata.specs.declared.items.Arc.{Arc}
@@ -22,18 +23,13 @@ arc_in (Join a) = Some a
 arc_in (Make s a i) = Some a
 arc_in p = None
 
--- one entry or none, as a list
-abbrev pub listed : {X : Type 0} → Option X → List X
-listed (Some x) = x ∷ []
-listed None = []
-
 -- the states that it adds
 abbrev pub new_states : Plan → List State
-new_states p = listed (state_in p)
+new_states p = option_to_list (state_in p)
 
 -- the arcs that it adds
 abbrev pub new_arcs : Plan → List Arc
-new_arcs p = listed (arc_in p)
+new_arcs p = option_to_list (arc_in p)
 
 -- the items that it puts in: one in the place of the item taken out, and one above it, which is to be taken next
 abbrev pub items_in : Plan → Option Item × Option Item
@@ -44,7 +40,7 @@ items_in p = (None, None)
 
 -- these as a list, the one to be taken next first
 abbrev pub new_items : Plan → List Item
-new_items p = listed (items_in p).1 ++ listed (items_in p).0
+new_items p = option_to_list (items_in p).1 ++ option_to_list (items_in p).0
 
 -- the plan puts these items in, and adds nothing else
 pub record Puts (put : List Item) (p : Plan) : Type 0 where

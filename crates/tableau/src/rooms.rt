@@ -1,7 +1,8 @@
 // Counts of what is in use, and the room there is.
 ghost use Rattle.std.specs.Prelude.{◌≡◌, ◌<◌, ◌≤◌, length};
+ghost use Rattle.std.specs.Option.{option_to_list};
 ghost use Rattle.std.specs.Result.{result_err};
-ghost use Rattle.tableau.specs.Plans.{state_in, arc_in, items_in, listed, new_items};
+ghost use Rattle.tableau.specs.Plans.{state_in, arc_in, items_in, new_items};
 ghost use Rattle.tableau.specs.Rooms.{lack_of, Within};
 
 use crate::limits::MOST_STEPS;
@@ -28,7 +29,7 @@ pub(crate) struct Space {
 
 // How many entries these are: one or none.
 pub(crate) fn count<T: Copy>(entry: Option<T>) -> usize
-    ensures count { result ≡ length (listed entry) }
+    ensures count { result ≡ length (option_to_list entry) }
     ensures few { result ≤ 1 }
 {
     entry.is_some() as usize

@@ -1,7 +1,7 @@
 // Writing what a plan adds.
 ghost use Rattle.std.specs.Prelude.{◌≡◌, ◌+◌, ◌-◌, ◌<◌, ◌≤◌, length, IfSome};
 ghost use Rattle.tableau.specs.declared.limits.TheConstants.{MOST_STEPS};
-ghost use Rattle.tableau.specs.Plans.{listed, new_states, new_arcs, new_items, entered_at, states_with, arcs_with, items_with};
+ghost use Rattle.tableau.specs.Plans.{new_states, new_arcs, new_items, entered_at, states_with, arcs_with, items_with};
 ghost use Rattle.tableau.specs.Rooms.{counts_with};
 
 use crate::plans::Plan;
