@@ -16,10 +16,10 @@ pub struct CoreForm {
 }
 
 /// Why there is no core form. docs/REFUSALS.md has the numbers.
-// Kept: a rule of the project: each crate has its own fault for a place that is not in the book.
 #[derive(Clone, Copy, PartialEq, Eq, Debug)]
 pub enum FormFault {
     /// 9: nothing is entered at this place.
+    // Kept: a rule of the project: each crate has its own fault for such a place.
     NotInBook(Place),
     /// 7: the core form has over 64 nodes.
     TooManyNodes,

@@ -9,7 +9,7 @@ use Rattle.automata.specs.declared.items.Arc.{Arc}
 use Rattle.automata.specs.declared.items.Item.{Item}
 use Rattle.automata.specs.declared.items.State.{State}
 use Rattle.automata.specs.declared.nodes.CoreNode.{CoreNode}
-use Rattle.tableau.specs.Plans.{DoesStep, new_states, new_arcs, new_items, applied, states_with, arcs_with, items_with}
+use Rattle.tableau.specs.Plans.{DoesStep, state_in, arc_in, new_states, new_arcs, new_items, applied, states_with, arcs_with, items_with}
 use Rattle.tableau.specs.Rooms.{counts_with, lack_of, Within}
 use Rattle.tableau.specs.Stepping.{lacking_of}
 use Rattle.tableau.specs.Walks.{config_of, room_in, Went, Turned}
@@ -18,7 +18,7 @@ use Rattle.tableau.specs.declared.rooms.Counts.{Counts}
 use Rattle.tableau.specs.declared.rooms.Space.{Space}
 use Rattle.tableau.specs.declared.translation.Lack.{Lack}
 use Rattle.tableau.specs.declared.translation.Lack.TheVariants.{Steps, States, Arcs, Pending}
-use Rattle.tableau.proofs.Written.{top, states_added, arcs_added, items_put, items_long}
+use Rattle.tableau.proofs.Written.{top, added, items_put, items_long}
 
 verdict : Option Lack → Progressed
 verdict None = running
@@ -106,8 +106,8 @@ module _ (sheet : List CoreNode) (s : Space) (c : Counts) (ss : List State) (xs 
   unfolding verdict
   went e r ss' xs' ps' er es ex ep =
       let n = enough p c s e in
-      let sa = states_added p c.states ss (omega (arith, n.states)) in
-      let xa = arcs_added p c.arcs xs (omega (arith, n.arcs)) in
+      let sa = added (state_in p) c.states ss (omega (arith, n.states)) in
+      let xa = added (arc_in p) c.arcs xs (omega (arith, n.arcs)) in
       let pa = items_put p c.pending ps some (omega (arith, n.pending)) in
       let r' = counts_with p c in
       let start : Went sheet s c ss xs ps r' (states_with p c.states ss) (arcs_with p c.arcs xs) (items_with p c.pending ps) = record {

@@ -1,10 +1,9 @@
 -- What a plan writes, seen as the lists in use.
-use Rattle.std.proofs.Common.{◌≡◌, ℕ, ◌+◌, ◌-◌, ◌<◌, ◌≤◌, List, [], ◌∷◌, ◌++◌, reverse, length, get_or, take, drop, set, sym, refl, ap, ◌∙◌, append-nil, arith, length-set}
+use Rattle.std.proofs.Common.{◌≡◌, ℕ, ◌+◌, ◌-◌, ◌<◌, ◌≤◌, List, [], ◌∷◌, ◌++◌, reverse, length, get_or, take, drop, set, Some, None, Option, sym, refl, ap, ◌∙◌, append-nil, arith, length-set}
 use Rattle.std.proofs.lemmas.List.{reverse-append, take_more, take_more_set, drop-set-lt}
-use Rattle.automata.specs.declared.items.Arc.{Arc}
+use Rattle.std.specs.Option.{option_to_list}
 use Rattle.automata.specs.declared.items.Item.{Item}
-use Rattle.automata.specs.declared.items.State.{State}
-use Rattle.tableau.specs.Plans.{new_states, new_arcs, new_items, states_with, arcs_with, items_with}
+use Rattle.tableau.specs.Plans.{items_in, new_items, entered_at, items_with}
 use Rattle.tableau.specs.declared.plans.Plan.{Plan}
 use Rattle.tableau.specs.declared.plans.Plan.TheVariants.{Nothing, One, Two, Join, Make}
 
@@ -15,11 +14,13 @@ pub record Added {X : Type 0} (n : ℕ) (old new ys : List X) : Type 0 where
   pub long : length new ≡ length old
 
 module _ {X : Type 0} where
-  added_none : (n : ℕ) (xs : List X) → Added n xs xs []
-  added_none n xs = let e : n + 0 ≡ n = omega arith in record { front = ap (λ k. take k xs) e ∙ sym (append-nil (take n xs)); rest = refl; long = refl }
+  entered_long : (o : Option X) (n : ℕ) (xs : List X) → length (entered_at o n xs) ≡ length xs
+  entered_long None n xs = refl
+  entered_long (Some y) n xs = length-set xs n y
 
-  added_one : (n : ℕ) (xs : List X) (y : X) → n + 1 ≤ length xs → Added n xs (set xs n y) (y ∷ [])
-  added_one n xs y h = record { front = take_more_set xs n y (omega arith); rest = drop-set-lt (n + 1) xs n y (omega arith); long = length-set xs n y }
+  pub added : (o : Option X) (n : ℕ) (xs : List X) → n + length (option_to_list o) ≤ length xs → Added n xs (entered_at o n xs) (option_to_list o)
+  added None n xs h = let e : n + 0 ≡ n = omega arith in record { front = ap (λ k. take k xs) e ∙ sym (append-nil (take n xs)); rest = refl; long = refl }
+  added (Some y) n xs h = record { front = take_more_set xs n y (omega arith); rest = drop-set-lt (n + 1) xs n y (omega arith); long = length-set xs n y }
 
   -- the item put in last
   pub top : (n : ℕ) (xs : List X) (d : X) → 0 < n → n ≤ length xs → reverse (take n xs) ≡ get_or xs (n - 1) d ∷ reverse (take (n - 1) xs)
@@ -40,20 +41,6 @@ module _ {X : Type 0} where
       ∙ ap (λ k. y ∷ reverse (take k (set xs m z))) e
       ∙ ap (λ t. y ∷ t) (put_one m xs z (omega arith))
 
-pub states_added : (p : Plan) (n : ℕ) (xs : List State) → n + length (new_states p) ≤ length xs → Added n xs (states_with p n xs) (new_states p)
-states_added Nothing n xs h = added_none n xs
-states_added (One i) n xs h = added_none n xs
-states_added (Two i j) n xs h = added_none n xs
-states_added (Join a) n xs h = added_none n xs
-states_added (Make s a i) n xs h = added_one n xs s h
-
-pub arcs_added : (p : Plan) (n : ℕ) (xs : List Arc) → n + length (new_arcs p) ≤ length xs → Added n xs (arcs_with p n xs) (new_arcs p)
-arcs_added Nothing n xs h = added_none n xs
-arcs_added (One i) n xs h = added_none n xs
-arcs_added (Two i j) n xs h = added_none n xs
-arcs_added (Join a) n xs h = added_one n xs a h
-arcs_added (Make s a i) n xs h = added_one n xs a h
-
 nothing_put : (m : ℕ) (xs : List Item) → reverse (take (m + 0) xs) ≡ reverse (take m xs)
 nothing_put m xs = let e : m + 0 ≡ m = omega arith in ap (λ k. reverse (take k xs)) e
 
@@ -66,8 +53,4 @@ items_put (Join a) n xs some h = nothing_put (n - 1) xs
 items_put (Make s a i) n xs some h = put_one (n - 1) xs i h
 
 pub items_long : (p : Plan) (n : ℕ) (xs : List Item) → length (items_with p n xs) ≡ length xs
-items_long Nothing n xs = refl
-items_long (One i) n xs = length-set xs (n - 1) i
-items_long (Two i j) n xs = length-set (set xs (n - 1) j) n i ∙ length-set xs (n - 1) j
-items_long (Join a) n xs = refl
-items_long (Make s a i) n xs = length-set xs (n - 1) i
+items_long p n xs = entered_long (items_in p).1 n _ ∙ entered_long (items_in p).0 (n - 1) xs

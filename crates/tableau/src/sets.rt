@@ -5,6 +5,7 @@ ghost use Rattle.automata.specs.Sets.{has, insert as inserted, remove as removed
 
 use automata::nodes::CoreSet;
 
+// Whether a number is a member.
 // Kept: the new form is no plainer: judging's `is_on` asks its own words, and no crate below both has any.
 #[tactic(auto, using(std::proofs::lemmas::Nat::and_mask))]
 pub(crate) fn contains(members: CoreSet, k: u8) -> bool
