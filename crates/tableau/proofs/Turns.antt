@@ -3,8 +3,7 @@ use Rattle.std.proofs.Common.{◌≡◌, ◌+◌, ◌-◌, ◌<◌, ◌≤◌, B
 use Rattle.std.proofs.lemmas.List.{length-take-le, length-reverse}
 use Rattle.std.proofs.lemmas.Bool.{ltb-false}
 use Rattle.std.specs.Result.{IsErrAnd}
-use Rattle.automata.specs.Steps.{Config, Progressed, running, no_room, within, step_with, one_step}
-use Rattle.automata.specs.Steps.{steps as no_steps, states as no_states, arcs as no_arcs, pending as no_pending}
+use Rattle.automata.specs.Steps.{Config, Progressed, running, no_room, within, step_with, one_step, steps as no_steps, states as no_states, arcs as no_arcs, pending as no_pending}
 use Rattle.automata.specs.declared.items.Arc.{Arc}
 use Rattle.automata.specs.declared.items.Item.{Item}
 use Rattle.automata.specs.declared.items.State.{State}

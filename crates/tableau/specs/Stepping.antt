@@ -1,7 +1,6 @@
 -- What a call of step answers, and what it makes of the lists that it is lent.
 use Rattle.std.specs.Prelude.{◌≡◌, ℕ, min, if◌then◌else◌, List, ◌++◌, reverse, length, take, drop, Some, None, Ok, Err, Option, Result, nat_lt}
-use Rattle.automata.specs.Steps.{Config, Room, Lacking, Progressed, finished, running, no_room, Advanced, advance}
-use Rattle.automata.specs.Steps.{steps as no_steps, states as no_states, arcs as no_arcs, pending as no_pending}
+use Rattle.automata.specs.Steps.{Config, Room, Lacking, Progressed, finished, running, no_room, Advanced, advance, steps as no_steps, states as no_states, arcs as no_arcs, pending as no_pending}
 use Rattle.automata.specs.declared.items.Arc.{Arc}
 use Rattle.automata.specs.declared.items.Item.{Item}
 use Rattle.automata.specs.declared.items.State.{State}
