@@ -1,5 +1,5 @@
 -- A call of step that answers running has made all its steps, and the lists are long enough for the next.
-use Rattle.std.proofs.Common.{◌≡◌, ℕ, zero, suc, ◌+◌, ◌<◌, ◌≤◌, Bool, true, false, cond, eqb, ltb, List, [], ◌∷◌, ◌++◌, reverse, length, take, Some, None, Err, Option, Result, sym, refl, ap, ◌∙◌, subst, arith, length-append, length-take, ltb-false, le-ltb}
+use Rattle.std.proofs.Common.{◌≡◌, ℕ, zero, suc, ◌+◌, ◌<◌, ◌≤◌, Bool, true, false, cond, eqb, ltb, List, [], ◌∷◌, ◌++◌, length, Some, None, Err, Option, Result, sym, refl, ap, ◌∙◌, subst, arith, length-append, length-take, ltb-false, le-ltb}
 use Rattle.std.proofs.lemmas.List.{length-reverse}
 use Rattle.automata.specs.Steps.{Config, Room, Progressed, finished, running, no_room, Advanced, settle, step_on, step_with, one_step, within, unless_lacking, unless_finished, advance}
 use Rattle.automata.specs.Steps.{steps as no_steps}
@@ -91,10 +91,6 @@ none_sheet s l e = go (ltb (length l.sheet) s.cores) refl _ _ e
     go true p f o e = absurd (none-some f (sym e))
     go false p f o e = ltb-false _ _ p
 
-taken_long : {X : Type 0} (n : ℕ) (xs ys : List X) → take n xs ≡ reverse ys → length ys ≡ n → n ≤ length xs
-taken_long n xs ys e f =
-    omega (arith, length-take n xs, ap length e, length-reverse ys)
-
 over_long : {X : Type 0} (xs ys zs : List X) → zs ≡ xs ++ ys → length xs ≤ length zs
 over_long xs ys zs e = omega (arith, ap length e, length-append xs ys)
 
@@ -113,7 +109,7 @@ running_goes s s' before after h (stepped e f w) =
       sheet = omega (arith, none_sheet s before h, ap length w.sheet);
       states = over_long made.config.states _ after.states w.states;
       arcs = over_long made.config.arcs _ after.arcs w.arcs;
-      pending = taken_long (length made.config.pending) after.pending made.config.pending w.pending refl;
+      pending = omega (arith, length-take (length made.config.pending) after.pending, ap length w.pending, length-reverse made.config.pending);
     } in
     record {
       long = ap (λ x. short_list x after) t ∙ long_none (standing_at s made.config) after long;

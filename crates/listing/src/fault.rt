@@ -16,6 +16,7 @@ pub enum ListFault {
     Begin(BeginFault),
 }
 
+// Kept: the new form is no plainer: a derive's `From` has no contract, and clauses name the error.
 impl From<ReadFault<'_>> for ListFault {
     ghost from_gives = { λ x y. y ≡ AtRead (file_fault x) };
 
@@ -24,6 +25,7 @@ impl From<ReadFault<'_>> for ListFault {
     }
 }
 
+// Kept: the new form is no plainer: a derive's `From` has no contract, and clauses name the error.
 impl From<BeginFault> for ListFault {
     ghost from_gives = { λ x y. y ≡ AtBegin x };
 
@@ -37,6 +39,7 @@ impl ListFault {
     pub fn number(&self) -> u8
         ensures { result ≡ list_number self.now }
     {
+        // Kept: a public promise, and docs/REFUSALS.md lists the numbers.
         match *self {
             ListFault::Read(fault) => fault.number(),
             ListFault::Begin(fault) => fault.number(),
@@ -54,10 +57,10 @@ impl ListFault {
     }
 
     /// The byte of the file, counted from 0, where the refused command starts, and 0 where no command is refused.
-    // Kept: a rule of the project, a public promise: it is 0 where no command is refused, and printed so.
     pub fn start(&self) -> usize
         ensures { result ≡ list_start self.now }
     {
+        // Kept: a public promise, which says 0 where there is no such byte.
         match *self {
             ListFault::Read(fault) => fault.start(),
             ListFault::Begin(_) => 0,

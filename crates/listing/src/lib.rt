@@ -23,6 +23,7 @@ pub mod text;
 const ALLOWANCE: u16 = 65535;
 
 // One call of step, on lists that are long enough for what is in use of them.
+// Kept: the new form is no plainer: with the lists in a type, each call would promise their lengths and their loans.
 fn step_once(
     running: Running,
     sheet: &[CoreNode],

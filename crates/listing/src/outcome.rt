@@ -2,6 +2,7 @@
 use tableau::translation::{Finished, Lack, Running};
 
 /// What a translation comes to (`docs/TRANSLATION.md`).
+// Kept: the new form is no plainer: a listing never answers that it is still running.
 #[derive(Drop)]
 pub enum Listed {
     /// the automaton stands on the lists

@@ -25,11 +25,11 @@ pub enum HeadLine {
     Refused(ListFault),
 }
 
-impl HeadLine {
-    /// The first line of what becomes of a rule file.
-    pub fn of(answer: &Result<Listed, ListFault>) -> HeadLine
-        ensures { result ≡ head_of answer.now }
-    {
+/// The first line of what becomes of a rule file.
+impl From<&Result<Listed, ListFault>> for HeadLine {
+    ghost from_gives = { λ answer line. line ≡ head_of answer.now };
+
+    fn from(answer: &Result<Listed, ListFault>) -> HeadLine {
         match answer {
             Ok(Listed::Finished(finished)) => {
                 let totals = finished.totals();

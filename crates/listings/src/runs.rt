@@ -35,7 +35,7 @@ fn bytes_of(heap: Global, text: &str) -> Result<Vec<u8>, AllocError> {
 
 fn begin_case(heap: Global, lists: &mut LongestLists, text: &str) -> Result<Case, AllocError> {
     let file = bytes_of(heap, text)?;
-    let head = HeadLine::of(&lists.list_rule(file.as_slice()));
+    let head = HeadLine::from(&lists.list_rule(file.as_slice()));
     Ok(Case {
         head,
         lines: 0,

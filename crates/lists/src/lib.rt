@@ -71,7 +71,7 @@ mod tests {
             sets: 0,
             steps: 4,
         };
-        assert_eq!(rt; HeadLine::of(&answer), head);
+        assert_eq!(rt; HeadLine::from(&answer), head);
         assert_eq!(rt; lists.arcs.get(0).copied(), Some(Arc { from: 0, to: 1 }));
         Ok(())
     }

@@ -33,7 +33,7 @@ pub(crate) fn run(rt: &HostRuntime) -> anyhow::Result<()> {
     let file = read_file(rt)?;
     let mut lists = LongestLists::new(rt.alloc())?;
     let answer = lists.list_rule(file.as_slice());
-    println!(rt; "{}", HeadLine::of(&answer))?;
+    println!(rt; "{}", HeadLine::from(&answer))?;
     if let Ok(Listed::Finished(finished)) = &answer {
         tell_automaton(rt, &lists, finished.totals())?;
     }

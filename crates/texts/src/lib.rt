@@ -34,6 +34,7 @@ fn number(text: &[u8], base: u64, most: usize) -> Option<u64>
     if text.is_empty() || text.len() > most {
         return None;
     }
+    // Kept: the new form is no plainer: `try_fold` would carry the same value.
     let mut value = 0;
     for &byte in text {
         value = value * base + digit(byte, base)?;

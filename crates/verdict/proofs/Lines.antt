@@ -1,6 +1,6 @@
 -- The table worked on paper: listings are computed, and joined to the judgments.
 use Rattle.std.proofs.Common.{◌≡◌, ℕ, List, [], ◌∷◌, sym, refl, subst, arith}
-use lib.Count.{count_trailing_zeros}
+use Rattle.std.specs.Int.Count.{count_trailing_zeros}
 use Rattle.automata.specs.Sheets.{write}
 use Rattle.automata.specs.Sheets as sheets
 use Rattle.automata.specs.Steps.{after}

@@ -1,5 +1,5 @@
 -- What a judge call that was not refused says.
-use Rattle.std.proofs.Common.{◌≡◌, ℕ, ◌<◌, Bool, true, false, cond, ltb, leb, ◌↔◌, List, length, Some, None, Ok, Err, Option, Result, sym, refl, ◌∙◌, subst, arith}
+use Rattle.std.proofs.Common.{◌≡◌, ℕ, ◌<◌, Bool, true, false, cond, ltb, leb, ◌↔◌, List, length, Some, None, Ok, Result, sym, refl, ◌∙◌, subst}
 use Rattle.std.proofs.lemmas.Bool.{ltb-true}
 use Rattle.rules.specs.declared.node.Node.{Node}
 use Rattle.rules.specs.declared.node.Place.{Place}
@@ -17,12 +17,6 @@ agree true d p q = sym (q.1 (p.0 refl))
 agree false true p q = p.1 (q.0 refl)
 agree false false p q = refl
 
-pub ok≢err : {X Y : Type 0} (x : X) (y : Y) → ◌≡◌ {A = Result X Y} (Ok x) (Err y) → ⊥
-ok≢err x y e = let z : ◌≡◌ {A = ℕ} 0 1 = cc in omega arith
-
-none≢some : {X : Type 0} (x : X) → ◌≡◌ {A = Option X} (Some x) None → ⊥
-none≢some x e = let z : ◌≡◌ {A = ℕ} 0 1 = cc in omega arith
-
 -- a judge call is refused unless its place is in the book
 in_book : (book : List Node) (place : Place) (l : Lasso) (work : List ℕ) → judge_fault book place l work ≡ None → place.index < length book
 in_book book place l work e = go (ltb place.index (length book)) refl e
@@ -30,7 +24,7 @@ in_book book place l work e = go (ltb place.index (length book)) refl e
     go : (b : Bool) → ltb place.index (length book) ≡ b
         → cond b (cond (leb (needed l) (length work)) None (Some (Short Work (needed l)))) (Some (NotInBook place)) ≡ None → place.index < length book
     go true q e = ltb-true _ _ q
-    go false q e = absurd (none≢some (NotInBook place) e)
+    go false q e = absurd cc
 
 -- what was answered
 pub record Outcome (book : List Node) (place : Place) (l : Lasso) (b : Bool) : Type 0 where
@@ -39,7 +33,7 @@ pub record Outcome (book : List Node) (place : Place) (l : Lasso) (b : Bool) : T
 
 pub outcome : {book : List Node} {place : Place} {l : Lasso} {before after : List ℕ} {answer : Result Bool JudgeFault} {b : Bool}
     → Judges book place l before answer after → answer ≡ Ok b → Outcome book place l b
-outcome {b = b} (refused {fault = k} f e s) h = absurd (ok≢err b k (sym h ∙ e))
+outcome (refused f e s) h = absurd cc
 outcome {book} {place} {l} {before} {b = b} (judged {yes = v} f e h t) q =
     let same : v ≡ b = cc (sym e ∙ q) in
     record { inside = in_book book place l before f; right = subst (λ b. (b ≡ true) ↔ Holds (rule_at book place.index) (unrolled l) 0) same h }

@@ -7,7 +7,6 @@ use Rattle.rules.specs.declared.node.Node.{Node}
 use Rattle.rules.specs.declared.node.Place.{Place}
 use Rattle.verdict.specs.Law.{SameAnswers}
 use Rattle.verdict.specs.Logs.{BookLog, entered}
-use Rattle.verdict.proofs.Outcomes.{ok≢err}
 
 from_enters : {file : List ℕ} {start : ℕ} {before after : List Node} {answer : Reading} (log : BookLog before) → ReadsFrom file start before answer after → (log' : BookLog after) × SameAnswers log log'
 from_enters log (stops call) = (entered log call, λ p l b. (λ a. a, λ a. a))
@@ -40,12 +39,12 @@ module _ (file : List ℕ) where
       let q = once s b c d in
       let e : f ≡ f' = cc q.0 in
       ((λ i. refused (e i) (s i)), q.1)
-  from_once s b (stops {fault = f} c) (ends {length_of = l'} {place = p'} d h) = absurd (ok≢err (p', l') f (sym (once s b c d).0))
-  from_once s b (stops {fault = f} c) (goes_on {length_of = l'} {place = p'} d h more) = absurd (ok≢err (p', l') f (sym (once s b c d).0))
-  from_once s b (ends {length_of = l} {place = p} c g) (stops {fault = f'} d) = absurd (ok≢err (p, l) f' (once s b c d).0)
+  from_once s b (stops c) (ends d h) = absurd (cc (once s b c d).0)
+  from_once s b (stops c) (goes_on d h more) = absurd (cc (once s b c d).0)
+  from_once s b (ends c g) (stops d) = absurd (cc (once s b c d).0)
   from_once s b (ends c g) (ends d h) = let q = once s b c d in (ap (λ x. rule x.0) (ok_same q.0), q.1)
   from_once s b (ends {length_of = l} c g) (goes_on {length_of = l'} d h more) = let e : l ≡ l' = ap (λ x. x.1) (ok_same (once s b c d).0) in absurd (omega arith)
-  from_once s b (goes_on {length_of = l} {place = p} c g more) (stops {fault = f'} d) = absurd (ok≢err (p, l) f' (once s b c d).0)
+  from_once s b (goes_on c g more) (stops d) = absurd (cc (once s b c d).0)
   from_once s b (goes_on {length_of = l} c g more) (ends {length_of = l'} d h) = let e : l ≡ l' = ap (λ x. x.1) (ok_same (once s b c d).0) in absurd (omega arith)
   from_once s b (goes_on {length_of = l} c g more) (goes_on {length_of = l'} d h more') =
       let q = once s b c d in

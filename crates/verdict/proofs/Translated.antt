@@ -1,5 +1,5 @@
 -- What a translation is at each position of its log: the defined steps from the core form of its rule.
-use Rattle.std.proofs.Common.{◌≡◌, ℕ, ◌≤◌, List, [], ◌∷◌, ◌++◌, reverse, length, take, drop, Ok, Result, sym, refl, ap, ◌∙◌, subst, arith, length-append, length-take}
+use Rattle.std.proofs.Common.{◌≡◌, ℕ, ◌≤◌, List, [], ◌∷◌, ◌++◌, reverse, length, take, drop, sym, refl, ap, ◌∙◌, subst, arith, length-append, length-take}
 use Rattle.std.proofs.lemmas.List.{length-reverse}
 use Rattle.std.proofs.lemmas.List.{take_at, take-append-le, reverse-reverse}
 use Rattle.automata.specs.Sheets.{Written, core_form}
@@ -11,13 +11,9 @@ use Rattle.coreform.specs.Forms.{form_at}
 use Rattle.rules.specs.declared.node.Node.{Node}
 use Rattle.rules.specs.declared.node.Place.{Place}
 use Rattle.semantics.specs.Rules.{rule_at}
-use Rattle.tableau.specs.Beginning.{cores, untils, begun, first_item, Begins}
-use Rattle.tableau.specs.Beginning as beginning
-use Rattle.tableau.specs.Stepping.{Standing, Lists, lists, config, standing_at, room_of, advanced_by, Answer, refusal, progress, Steps}
-use Rattle.tableau.specs.Stepping as stepping
-use Rattle.verdict.specs.Logs.{Phase, going, done, phase_at, Longer, TranslationLog}
-use Rattle.verdict.specs.Logs as logs
-use Rattle.verdict.proofs.Outcomes.{ok≢err}
+use Rattle.tableau.specs.Beginning.{begun, first_item, refused as unbegun, begun_at}
+use Rattle.tableau.specs.Stepping.{Standing, Lists, lists, config, standing_at, room_of, advanced_by, Answer, refusal, progress, Written as WrittenOn, Steps, refused as unstepped, stepped}
+use Rattle.verdict.specs.Logs.{BookLog, Phase, going, done, phase_at, Longer, TranslationLog, began, refused as still, stepped as called}
 
 -- ---- lists
 take_over : {X : Type 0} (made old : List X) → take (length made) (made ++ drop (length made) old) ≡ made
@@ -25,9 +21,6 @@ take_over made old = take_at made (drop (length made) old) (length made) refl
 
 long_over : {X : Type 0} (made old : List X) → length made ≤ length (made ++ drop (length made) old)
 long_over made old = omega (arith, length-append made (drop (length made) old))
-
-long_back : {X : Type 0} (made now : List X) → take (length made) now ≡ reverse made → length made ≤ length now
-long_back made now e = omega (arith, length-take (length made) now, ap length e, length-reverse made)
 
 -- ---- answers
 abbrev Progresses : Answer → Type 0
@@ -41,9 +34,6 @@ answer_of (progress p s) = p
 abbrev numbers_of : Standing → Answer → Standing
 numbers_of d (refusal f s) = d
 numbers_of d (progress p s) = s
-
-ok_same : {X Y : Type 0} {x y : X} → ◌≡◌ {A = Result X Y} (Ok x) (Ok y) → x ≡ y
-ok_same e = cc
 
 module _ (form : Written) where
   abbrev T : List CoreNode
@@ -70,7 +60,7 @@ module _ (form : Written) where
     pub long_pending : s.pending ≤ length l.pending
 
   -- the lists as a config is written on them
-  written : (s : Standing) (k : Config) (before now : Lists) → stepping.Written k before now → config (standing_at s k) now ≡ k
+  written : (s : Standing) (k : Config) (before now : Lists) → WrittenOn k before now → config (standing_at s k) now ≡ k
   written s k before now w = λ i. record {
     steps = k.steps;
     states = (ap (take (length k.states)) w.states ∙ take_over k.states before.states) i;
@@ -105,7 +95,7 @@ module _ (form : Written) where
   over_from running c e = tt
   over_from (no_room l) c e = tt
 
-  stands_written : (s : Standing) (l l' : Lists) (n : ℕ) → Stand going s l → stepping.Written (advanced_by n s l).config l l'
+  stands_written : (s : Standing) (l l' : Lists) (n : ℕ) → Stand going s l → WrittenOn (advanced_by n s l).config l l'
       → Stand (phase_at (advanced_by n s l).answer) (standing_at s (advanced_by n s l).config) l'
   stands_written s l l' n st w = record {
     time = g.time;
@@ -117,7 +107,7 @@ module _ (form : Written) where
     long_sheet = subst (λ x. s.cores ≤ length x) (sym w.sheet) st.long_sheet;
     long_states = subst (λ x. length k.states ≤ length x) (sym w.states) (long_over k.states l.states);
     long_arcs = subst (λ x. length k.arcs ≤ length x) (sym w.arcs) (long_over k.arcs l.arcs);
-    long_pending = long_back k.pending l'.pending w.pending;
+    long_pending = omega (arith, length-take (length k.pending) l'.pending, ap length w.pending, length-reverse k.pending);
   }
     where
       k : Config
@@ -133,8 +123,8 @@ module _ (form : Written) where
       k_is = ap (λ a. a.config) on_T ∙ g.is
 
   stands_stepped : {s s' : Standing} {l l' : Lists} {n : ℕ} {a : Progressed} → Steps s l n (progress a s') l' → Stand going s l → Stand (phase_at a) s' l'
-  stands_stepped {s} {s'} {l} {l'} {n} {a} (stepping.refused fault x e z) st = absurd (subst Progresses e tt)
-  stands_stepped {s} {s'} {l} {l'} {n} {a} (stepping.stepped x e w) st =
+  stands_stepped {s} {s'} {l} {l'} {n} {a} (unstepped fault x e z) st = absurd (subst Progresses e tt)
+  stands_stepped {s} {s'} {l} {l'} {n} {a} (stepped x e w) st =
       let answers : a ≡ (advanced_by n s l).answer = ap answer_of e in
       let numbers : s' ≡ standing_at s (advanced_by n s l).config = ap (numbers_of s') e in
       subst (λ b. Stand (phase_at b) s' l') (sym answers) (subst (λ t. Stand (phase_at (advanced_by n s l).answer) t l') (sym numbers) (stands_written s l l' n st w))
@@ -160,11 +150,12 @@ module _ (form : Written) where
 -- ---- at each position of a log
 module _ {book : List Node} {place : Place} where
   stands : {p : Phase} {s : Standing} {l : Lists} → TranslationLog book place p s l → Stand (form_at book place) p s l
-  stands (logs.began {numbers = s} {states = ss} {arcs = xs} log (beginning.refused {fault = f} b e x y)) = absurd (ok≢err s f e)
-  stands (logs.began {sheet = sh} {sheet' = sh'} {pending = pe} {pending' = pe'} {numbers = s} {states = ss} {arcs = xs} log (beginning.begun_at b e x y)) =
-      subst (λ t. Stand (form_at book place) going t (lists sh' ss xs pe')) (sym (ok_same e)) (stands_begun (form_at book place) sh sh' pe pe' (lists sh' ss xs pe') x y refl refl)
-  stands (logs.refused log call) = stands log
-  stands (logs.stepped {numbers' = s'} {after = l'} log longer call e) = subst (λ p. Stand (form_at book place) p s' l') (sym e) (stands_stepped (form_at book place) call (stands_longer (form_at book place) longer (stands log)))
+  stands (began log (unbegun b e x y)) = absurd cc
+  stands (began {sheet = sh} {sheet' = sh'} {pending = pe} {pending' = pe'} {numbers = s} {states = ss} {arcs = xs} log (begun_at b e x y)) =
+      let same : s ≡ begun (form_at book place) = cc in
+      subst (λ t. Stand (form_at book place) going t (lists sh' ss xs pe')) (sym same) (stands_begun (form_at book place) sh sh' pe pe' (lists sh' ss xs pe') x y refl refl)
+  stands (still log call) = stands log
+  stands (called {numbers' = s'} {after = l'} log longer call e) = subst (λ p. Stand (form_at book place) p s' l') (sym e) (stands_stepped (form_at book place) call (stands_longer (form_at book place) longer (stands log)))
 
   module _ {s : Standing} {l : Lists} (log : TranslationLog book place done s l) where
     st : Stand (form_at book place) done s l
@@ -202,10 +193,10 @@ listed_alike {book} {book'} {place} {place'} {s} {s'} {l} {l'} e log log' =
     (recount F done s l a ∙ ap (standing_at (begun F)) same ∙ sym (recount F done s' l' b), same)
 
 -- the book of a translation's log is sound
-pub translation_book : {book : List Node} {place : Place} {p : Phase} {s : Standing} {l : Lists} → TranslationLog book place p s l → logs.BookLog book
-translation_book (logs.began log call) = log
-translation_book (logs.refused log call) = translation_book log
-translation_book (logs.stepped log longer call e) = translation_book log
+pub translation_book : {book : List Node} {place : Place} {p : Phase} {s : Standing} {l : Lists} → TranslationLog book place p s l → BookLog book
+translation_book (began log call) = log
+translation_book (still log call) = translation_book log
+translation_book (called log longer call e) = translation_book log
 
 -- a finished translation has the numbers of the config in which the defined steps end
 pub numbers_at : {book : List Node} {place : Place} {s : Standing} {l : Lists} (n : ℕ) → (after (form_at book place).sheet (form_at book place).root n).pending ≡ []

@@ -17,7 +17,10 @@ fn law_stands()
     ensures worked { WorkedTable }
 {}
 
-// Judges the rule at a place of the book on a recording, under the law over all logs.
+/// Judges the rule at a place of the book on a recording, at its first scan. Its contract has the law over all
+/// logs and the table worked on paper. The work list needs 4 words for each scan of the recording. Refused are a
+/// place at which nothing is entered (9), and then a shorter list (11), which is left as it was. The rule is in
+/// `docs/VERDICTS.md`.
 pub fn give_verdict<R: Recording>(
     book: &Book,
     place: Place,
