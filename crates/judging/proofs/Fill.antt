@@ -66,6 +66,11 @@ pub record Filled (node : Node) (l : Lasso) (p : ℕ) (before : List ℕ) (j : �
   pub rest : drop (4 * length l.words) work ≡ drop (4 * length l.words) before
   pub long : length work ≡ length before
 
+-- the column from scan j on, in the list as it is where the value is the denial, and else once the place is noted
+abbrev pub Swept : Node → Lasso → ℕ → List ℕ → ℕ → Bool → List ℕ → Type 0
+Swept node l p before j v work =
+    (v ≡ denies_of node → Filled node l p before j v work) × ((v ≡ denies_of node → ⊥) → Filled node l p before j v (noted work j p))
+
 module _ (node : Node) (l : Lasso) (inside : l.start < length l.words) (p : ℕ) (few : p < 256) (fits : fits_at node p ≡ true) (before : List ℕ) (enough : 4 * length l.words ≤ length before) where
   abbrev n : ℕ
   n = length l.words
@@ -87,7 +92,7 @@ module _ (node : Node) (l : Lasso) (inside : l.start < length l.words) (p : ℕ)
     value_back = column_back node l before inside j t c v some inn (turned j (j - 1) c work t w (omega arith) q) e w.value_is
 
     -- nothing is noted
-    pub fill_left : v ≡ denies_of node → Filled node l p before (j - 1) v work
+    fill_left : v ≡ denies_of node → Filled node l p before (j - 1) v work
     fill_left d = record {
       value_is = value_back;
       empty = λ k h. w.empty k (omega arith);
@@ -106,7 +111,7 @@ module _ (node : Node) (l : Lasso) (inside : l.start < length l.words) (p : ℕ)
     word_inside = omega (arith, w.long)
 
     -- the scan before is noted
-    pub fill_noted : (v ≡ denies_of node → ⊥) → Filled node l p before (j - 1) v (noted work (j - 1) p)
+    fill_noted : (v ≡ denies_of node → ⊥) → Filled node l p before (j - 1) v (noted work (j - 1) p)
     fill_noted d = record {
       value_is = value_back;
       empty = λ k h. told_else work (j - 1) p k p word_inside few few (λ z. absurd (omega arith)) ∙ w.empty k (omega arith);
@@ -122,3 +127,6 @@ module _ (node : Node) (l : Lasso) (inside : l.start < length l.words) (p : ℕ)
       rest = drop-set-lt (4 * n) work (word_of (j - 1) p) _ (omega arith) ∙ w.rest;
       long = length-set work (word_of (j - 1) p) _ ∙ w.long;
     }
+
+    pub swept : Swept node l p before (j - 1) v work
+    swept = (fill_left, fill_noted)
