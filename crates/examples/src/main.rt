@@ -9,7 +9,7 @@ mod runs;
 
 fn main(rt: HostRuntime) -> anyhow::Result<ExitCode> {
     borders::tell_borders(&rt)?;
-    // Kept: the new form is no plainer: `ExitCode` has no `From<bool>`, and an error would print a line of its own.
+    // Kept: the new form is no plainer: `ExitCode::from` takes a number, and these names say more.
     if runs::run_cases(&rt)? {
         Ok(ExitCode::SUCCESS)
     } else {

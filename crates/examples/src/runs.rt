@@ -38,7 +38,7 @@ fn changes(heap: Global, words: &[u64]) -> Result<Vec<Edge>, CaseFault>
 }
 
 // Whether the rule at a place holds of a recording.
-// Kept: no heap: `linecheck` has like lines under its law, but no library below may allocate the work list.
+// Kept: the new form is no plainer: a crate for two lines, and `linecheck` gives its verdict under the law.
 fn holds<R: Recording>(
     heap: Global,
     book: &Book,

@@ -25,9 +25,11 @@ fn next_scan<R: Recording>(recording: &R, scan: usize) -> usize
 }
 
 // The turn of a node at a scan, from the truths of its operands.
-// Kept: the new form is no plainer: with the list in a type, each function that writes would promise its length and its loan.
+// Kept: the new form is no plainer: a list lent to be read would be of a type of its own, beside the one that is written.
 fn turn_at<R: Recording>(node: Node, recording: &R, work: &[u64], scan: usize) -> Turn
-    requires { (fits_at node 256 ≡ true) × ((scan < length (R.meaning recording.now).words) × (4 * length (R.meaning recording.now).words ≤ length work.now)) }
+    requires fits { fits_at node 256 ≡ true }
+    requires inside { scan < length (R.meaning recording.now).words }
+    requires enough { 4 * length (R.meaning recording.now).words ≤ length work.now }
     ensures hold { result.hold ≡ node_hold node (slice_index (R.meaning recording.now).words scan) (told work.now scan) (told work.now (following (length (R.meaning recording.now).words) (R.meaning recording.now).start scan)) }
     ensures pass { result.pass ≡ node_pass node (told work.now scan) }
 {
@@ -53,8 +55,10 @@ fn turn_at<R: Recording>(node: Node, recording: &R, work: &[u64], scan: usize) -
 }
 
 // What the turns of a node say beyond the last scan: one turn of the loop is enough to know.
+// Kept: the new form is no plainer: `fill_column` knows more of its node, and would make a node that fits 256 for these two.
 fn first_sweep<R: Recording>(node: Node, recording: &R, work: &[u64]) -> bool
-    requires { (fits_at node 256 ≡ true) × (4 * length (R.meaning recording.now).words ≤ length work.now) }
+    requires fits { fits_at node 256 ≡ true }
+    requires enough { 4 * length (R.meaning recording.now).words ≤ length work.now }
     ensures { Decides result (Solution (hold_on node (R.meaning recording.now) work.now) (pass_on node (R.meaning recording.now) work.now) (lasts_of node) (length (R.meaning recording.now).words)) }
 {
     // Kept: the new form is no plainer: a sweep carries a value from each scan to the one before it.
@@ -66,7 +70,8 @@ fn first_sweep<R: Recording>(node: Node, recording: &R, work: &[u64]) -> bool
 }
 
 // Writes the column of a place, which is empty before, from those of its operands.
-// Kept: a rule of the project: a `Place` may name nothing that is entered, so no type bounds it.
+// Kept: the new form is no plainer: with the list in a type, each function that writes would promise its length and its loan.
+// Kept: the new form is no plainer: a type of a place below 256 would be made anew for each operand.
 pub(crate) fn fill_column<R: Recording>(node: Node, place: Place, recording: &R, work: &mut [u64])
     requires few { place.index < 256 }
     requires lower { fits_at node place.index ≡ true }

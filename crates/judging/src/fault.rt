@@ -16,7 +16,7 @@ pub enum LentList {
 #[derive(Clone, Copy, PartialEq, Eq, Debug)]
 pub enum JudgeFault {
     /// 9: nothing is entered at this place
-    // Kept: a rule of the project: each crate's fault has its own refusal of such a place.
+    // Kept: a public promise: the refusal carries the place.
     NotInBook(Place),
     /// 11: this list is shorter than the length that it needs, in words
     // Kept: a public promise: the fault has the list and its length.

@@ -18,9 +18,10 @@ pub(crate) fn is_on(word: u64, at: usize) -> bool
 }
 
 // What the list says of a place at a scan.
-// Kept: a rule of the project: a `Place` may name nothing that is entered, so no type bounds it.
+// Kept: the new form is no plainer: a type of a place below 256 would be made anew for each operand.
 pub(crate) fn truth(work: &[u64], scan: usize, place: Place) -> bool
-    requires { (4 * scan + 4 ≤ length work.now) × (place.index < 256) }
+    requires enough { 4 * scan + 4 ≤ length work.now }
+    requires few { place.index < 256 }
     ensures { result ≡ told work.now scan place.index }
 {
     let index = place.index as usize;
@@ -28,9 +29,10 @@ pub(crate) fn truth(work: &[u64], scan: usize, place: Place) -> bool
 }
 
 // Notes that a place is true at a scan.
-// Kept: a rule of the project: a `Place` may name nothing that is entered, so no type bounds it.
+// Kept: the new form is no plainer: a type of a place below 256 would be made anew for each operand.
 pub(crate) fn note(work: &mut [u64], scan: usize, place: Place)
-    requires { (4 * scan + 4 ≤ length work.old) × (place.index < 256) }
+    requires enough { 4 * scan + 4 ≤ length work.old }
+    requires few { place.index < 256 }
     ensures { work.new ≡ slice_set work.old (word_of scan place.index) (bit_or (slice_index work.old (word_of scan place.index)) (2 ^ bit_of place.index)) }
 {
     let index = place.index as usize;

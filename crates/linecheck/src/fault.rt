@@ -9,7 +9,7 @@ use rules::reading::{FileFault, ReadFault};
 use std::alloc::AllocError;
 use std::io;
 
-// Kept: a derive of `thiserror` is no plainer: each sentence names the file in its middle, which no fault holds.
+// Kept: a derive of `thiserror` is no plainer: each sentence names the file in its middle, which no fault holds, and without it nothing derives `From`.
 #[derive(Clone, Copy)]
 pub(crate) enum NoVerdict {
     // the file cannot be read

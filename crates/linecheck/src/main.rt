@@ -10,7 +10,7 @@ mod telling;
 mod text;
 
 fn main(rt: HostRuntime) -> anyhow::Result<ExitCode> {
-    // Kept: the new form is no plainer: `ExitCode` has no `From<bool>`, and an error would print a line of its own.
+    // Kept: the new form is no plainer: `ExitCode::from` takes a number, and these names say more.
     if task::run(&rt)? {
         Ok(ExitCode::SUCCESS)
     } else {

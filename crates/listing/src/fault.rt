@@ -16,7 +16,6 @@ pub enum ListFault {
     Begin(BeginFault),
 }
 
-// Kept: the new form is no plainer: a derive's `From` has no contract, and clauses name the error.
 impl From<ReadFault<'_>> for ListFault {
     ghost from_gives = { λ x y. y ≡ AtRead (file_fault x) };
 

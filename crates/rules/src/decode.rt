@@ -20,6 +20,7 @@ fn place_at(high: u8, low: u8) -> Place
 }
 
 // The node that the first command says, and how long the command is.
+// Kept: a rule of the project: the parts of a command are taken by `let .. else`, whose `else` leaves with the fault.
 pub(crate) fn decode(bytes: &[u8]) -> Result<(Node, usize), EnterFault>
     ensures { result ≡ decoded bytes.now }
 {

@@ -48,7 +48,6 @@ impl<'a> From<CommandFault<'a>> for ReadFault<'a> {
     }
 }
 
-// Kept: no plainer: a derive's From has no contract, and clauses name the error.
 impl From<ReadFault<'_>> for FileFault {
     ghost from_gives = { λ x y. y ≡ file_fault x };
 

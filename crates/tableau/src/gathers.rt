@@ -8,6 +8,7 @@ use automata::items::State;
 use automata::nodes::{CoreNode, CoreSet};
 
 // The mark set j, if it is the one of node k and an Old bears it.
+// Kept: no plainer: numbers inside a core node are plain `u8`, so a type for k < 64 would be made anew at each use.
 fn mark_of(read: Checked, k: u8, old: CoreSet, j: u8) -> u64
     requires node { k < 64 }
     requires set { j < 64 }

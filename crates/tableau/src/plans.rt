@@ -53,6 +53,7 @@ fn with(item: Item, new: CoreSet, next: CoreSet) -> Item
 }
 
 // The items that take the place of an item from which node k was taken.
+// Kept: no plainer: numbers inside a core node are plain `u8`, so a type for k < 64 would be made anew at each use.
 fn split(read: Checked, k: u8, item: Item) -> Plan
     requires { k < 64 }
     ensures { Puts (split read.node k item.source item.new item.old item.next) result }

@@ -27,7 +27,7 @@ pub(crate) struct Space {
     pub pending: usize,
 }
 
-// How many entries these are: one or none.
+// How many entries an option has: one or none.
 pub(crate) fn count<T: Copy>(entry: Option<T>) -> usize
     ensures count { result ≡ length (option_to_list entry) }
     ensures few { result ≤ 1 }
@@ -78,7 +78,7 @@ impl Plan {
 }
 
 // Refuses a plan for which there is no room, by the first of the four that lacks.
-// Kept: no plainer: a type of such counts would be tied to a space, and a finished count is 0.
+// Kept: no plainer: a type of such counts would be tied to a space, and a finished translation has no pending items.
 pub(crate) fn check_room(plan: &Plan, counts: Counts, space: Space) -> Result<(), Lack>
     requires inside { Within counts space }
     requires some { 0 < counts.pending }

@@ -1,12 +1,13 @@
 // Sets of core numbers.
-// Kept: a rule of the project: no public function has a `requires`, and methods on another crate's type would be public.
+// Kept: no plainer: numbers inside a core node are plain `u8`, so a type for k < 64 would be made anew at each use.
+// Kept: a rule of the project: as methods of `CoreSet` these would be public of its crate, and no public function has a `requires`.
 ghost use Rattle.std.specs.Prelude.{◌≡◌, ◌<◌};
 ghost use Rattle.automata.specs.Sets.{has, insert as inserted, remove as removed, lowest as lowest_of, join as joined};
 
 use automata::nodes::CoreSet;
 
 // Whether a number is a member.
-// Kept: the new form is no plainer: judging's `is_on` asks its own words, and no crate below both has any.
+// Kept: the new form is no plainer: judging's `is_on` asks its own words, and no crate with code below both has bits of words.
 #[tactic(auto, using(std::proofs::lemmas::Nat::and_mask))]
 pub(crate) fn contains(members: CoreSet, k: u8) -> bool
     requires { k < 64 }

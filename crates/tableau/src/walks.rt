@@ -30,7 +30,7 @@ fn space_in(states: &[State], arcs: &[Arc], pending: &[Item]) -> Space
 
 // One step: there is a pending item.
 // Kept: the new form is no plainer: with the lists in a type, each call would promise their lengths and their loans.
-// Kept: no plainer: a type of such counts would be tied to a space, and a finished count is 0.
+// Kept: no plainer: a type of such counts would be tied to a space, and a finished translation has no pending items.
 fn turn(
     counts: Counts,
     space: Space,
