@@ -7,7 +7,7 @@ ghost use Rattle.coreform.specs.Writing.{Known, Writes};
 ghost use Rattle.semantics.specs.Rules.{rule_at};
 
 use crate::cookbook::recipe_of;
-use crate::draft::Draft;
+use crate::draft::{Draft, put};
 use crate::numbers::Numbers;
 use crate::recipe::{MOST_RECIPE_STEPS, Step};
 use automata::nodes::CoreNode;
@@ -36,15 +36,15 @@ pub(crate) struct Writer<'a> {
     pub(crate) draft: Draft,
     numbers: Numbers,
     book: &'a Book,
-    ghost few: { length draft ≤ MOST_NODES },
+    ghost few: { length draft.items ≤ MOST_NODES },
 }
 
 impl<'a> Writer<'a> {
     // Nothing is written.
     pub(crate) fn new(book: &'a Book) -> Writer<'a>
-        ensures draft { result.draft ≡ [] }
+        ensures draft { result.draft.items ≡ [] }
         ensures book { result.book.now ≡ book.now }
-        ensures known { Known book.now result.draft result.numbers }
+        ensures known { Known book.now result.draft.items result.numbers }
     {
         Writer {
             draft: Draft::new(),
@@ -57,9 +57,9 @@ impl<'a> Writer<'a> {
     // number: none where there are over 64 nodes.
     pub(crate) fn write(&mut self, place: Place, polarity: bool) -> Option<u8>
         requires entered { place.index < length self.old.book.now }
-        requires known { Known self.old.book.now self.old.draft self.old.numbers }
-        ensures writes { Writes (core_of (rule_at self.old.book.now place.index) polarity) self.old.draft result self.new.draft }
-        ensures known { IfSome result (λ _. Known self.old.book.now self.new.draft self.new.numbers) }
+        requires known { Known self.old.book.now self.old.draft.items self.old.numbers }
+        ensures writes { Writes (core_of (rule_at self.old.book.now place.index) polarity) self.old.draft.items result self.new.draft.items }
+        ensures known { IfSome result (λ _. Known self.old.book.now self.new.draft.items self.new.numbers) }
         ensures book { self.new.book.now ≡ self.old.book.now }
     {
         if let Some(number) = self.numbers.get(polarity, place) {
@@ -72,7 +72,7 @@ impl<'a> Writer<'a> {
         for (at, step) in steps.iter().enumerate() {
             made[at] = match *step {
                 Step::Write(a, p) => self.write(a, p)?,
-                Step::Put(node) => self.draft.put(node_over(node, &made[..at]))?,
+                Step::Put(node) => put(&mut self.draft, node_over(node, &made[..at]))?,
             };
         }
         let number = made[steps.len() - 1];

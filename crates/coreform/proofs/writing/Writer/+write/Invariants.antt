@@ -9,8 +9,8 @@ decreases-write l = l.place.index
 
 abbrev pub invariant-loop-at : goal.invariant-loop-at
 invariant-loop-at l = record {
-  reached : Reached (rule_at l.fn.self.book.now) l.steps l.fn.self.draft l.at l.made l.self.draft;
-  known : Known l.fn.self.book.now l.self.draft l.self.numbers;
+  reached : Reached (rule_at l.fn.self.book.now) l.steps l.fn.self.draft.items l.at l.made l.self.draft.items;
+  known : Known l.fn.self.book.now l.self.draft.items l.self.numbers;
   book : l.self.book.now ≡ l.fn.self.book.now;
   long : length l.made ≡ 7;
 }
