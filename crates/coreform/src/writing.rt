@@ -10,6 +10,7 @@ use crate::cookbook::recipe_of;
 use crate::draft::{Draft, put};
 use crate::numbers::Numbers;
 use crate::recipe::{MOST_RECIPE_STEPS, Step};
+use arrayvec::ArrayVec;
 use automata::nodes::CoreNode;
 use rules::book::Book;
 use rules::node::Place;
@@ -66,16 +67,15 @@ impl<'a> Writer<'a> {
             return Some(number);
         }
         let recipe = recipe_of(self.book.nodes()[place.index as usize], polarity);
-        let steps = recipe.steps();
-        // Kept: no heap; a crate for a list in an array is no plainer for this one local.
-        let mut made = [0u8; MOST_RECIPE_STEPS];
-        for (at, step) in steps.iter().enumerate() {
-            made[at] = match *step {
+        let mut made = ArrayVec::<u8, MOST_RECIPE_STEPS>::new();
+        for step in recipe.steps() {
+            let number = match *step {
                 Step::Write(a, p) => self.write(a, p)?,
-                Step::Put(node) => put(&mut self.draft, node_over(node, &made[..at]))?,
+                Step::Put(node) => put(&mut self.draft, node_over(node, made.as_slice()))?,
             };
+            made.push(number);
         }
-        let number = made[steps.len() - 1];
+        let number = made[made.len() - 1];
         self.numbers.set(polarity, place, number);
         Some(number)
     }
