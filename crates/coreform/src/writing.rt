@@ -68,7 +68,7 @@ impl<'a> Writer<'a> {
         }
         let recipe = recipe_of(self.book.nodes()[place.index as usize], polarity);
         let mut made = ArrayVec::<u8, MOST_RECIPE_STEPS>::new();
-        for step in recipe.steps() {
+        for step in recipe.as_slice() {
             let number = match *step {
                 Step::Write(a, p) => self.write(a, p)?,
                 Step::Put(node) => put(&mut self.draft, node_over(node, made.as_slice()))?,
