@@ -3,9 +3,10 @@
 /// A node of a core form. Operands are core numbers, the numbers of nodes on the same sheet; signals
 /// are numbered from 0 to 63. A node of a lent sheet may hold any number: one that names no node
 /// there, or no signal, makes the node count as false. The kinds are in docs/TRANSLATION.md.
-#[derive(Clone, Copy, PartialEq, Eq, Debug)]
+#[derive(Clone, Copy, PartialEq, Eq, Debug, Default)]
 pub enum CoreNode {
     True,
+    #[default]
     False,
     /// The literal of a signal that is on.
     On(u8),

@@ -2,6 +2,7 @@
 use Rattle.std.proofs.Common.{◌≡◌, ℕ, suc, ◌+◌, Bool, true, false, cond, ltb, List, [], ◌∷◌, ◌++◌, length, Some, None, sym, refl, ap, ◌∙◌, arith}
 use Rattle.std.specs.List.{position, position_or_len}
 use Rattle.std.proofs.lemmas.Bool.{ltb-true, ltb-false}
+use Rattle.std.proofs.lemmas.List.{length_push}
 use Rattle.std.proofs.lemmas.List.Recursion.{is_position_or_len}
 use Rattle.automata.specs.Sheets.{same, number_on, put}
 use Rattle.automata.specs.declared.nodes.CoreNode.{CoreNode}
@@ -32,3 +33,7 @@ put_next n xs e = go (ltb (number_on n xs) (length xs)) refl (sym (position_is n
     go : (b : Bool) → ltb (number_on n xs) (length xs) ≡ b → cond b (Some (number_on n xs)) None ≡ None → put n xs ≡ written (xs ++ n ∷ []) (length xs)
     go true t f = absurd cc
     go false t f = put_new n xs (ltb-false _ _ t)
+
+-- and the sheet is longer by one then
+pub put_longer : (n : CoreNode) (xs : List CoreNode) → None ≡ position (λ x. same x n) xs → length (put n xs).sheet ≡ length xs + 1
+put_longer n xs e = ap (λ w. length w.sheet) (put_next n xs e) ∙ length_push xs n

@@ -1,6 +1,6 @@
 -- The steps of a recipe, one after the other, on a draft.
-use Rattle.std.proofs.Common.{◌≡◌, ℕ, ◌+◌, ◌-◌, ◌<◌, ◌≤◌, Bool, List, [], ◌∷◌, ◌++◌, length, get_or, drop, take, set, sym, refl, ap, ◌∙◌, arith}
-use Rattle.std.proofs.lemmas.List.{drop_more, take_more_set, at_drop_all, get_or-take}
+use Rattle.std.proofs.Common.{◌≡◌, ℕ, ◌+◌, ◌-◌, ◌<◌, ◌≤◌, Bool, List, [], ◌∷◌, ◌++◌, length, get_or, drop, sym, refl, ap, ◌∙◌, arith}
+use Rattle.std.proofs.lemmas.List.{drop_more, at_drop_all}
 use Rattle.automata.specs.Cores.{Core, core_of}
 use Rattle.automata.specs.Sheets.{write}
 use Rattle.automata.specs.declared.nodes.CoreNode.{CoreNode}
@@ -45,31 +45,28 @@ module _ (rule : ℕ → Rule) where
   module _ (steps : List Step) (before : List CoreNode) where
     -- what is left to make from this step on comes to the whole
     abbrev pub Reached : ℕ → List ℕ → List CoreNode → Type 0
-    Reached at list draft = made rule (drop at steps) (take at list) draft ≡ made rule steps [] before
+    Reached at list draft = made rule (drop at steps) list draft ≡ made rule steps [] before
 
     module _ (at : ℕ) (list : List ℕ) (draft : List CoreNode) (reached : Reached at list draft) where
       -- where no step is left, all of them are made
-      pub reached_end : length steps ≤ at → length steps - 1 < at → written steps (made rule steps [] before) ≡ record { sheet = draft; root = get_or list (length steps - 1) 0 }
+      pub reached_end : length steps ≤ at → length list ≡ length steps → written steps (made rule steps [] before) ≡ record { sheet = draft; root = get_or list (length list - 1) 0 }
       reached_end over last =
-          ap (written steps) (sym reached ∙ at_drop_all (λ ss. made rule ss (take at list) draft) steps at over)
-          ∙ ap (λ r. record { sheet = draft; root = r }) (get_or-take at list (length steps - 1) 0 last)
+          ap (written steps) (sym reached ∙ at_drop_all (λ ss. made rule ss list draft) steps at over)
+          ∙ ap (λ k. record { sheet = draft; root = get_or list (k - 1) 0 }) (sym last)
 
       module _ (d : Step) (inside : at < length steps) where
         abbrev s : Step
         s = get_or steps at d
 
-        from_here : made rule (s ∷ drop (at + 1) steps) (take at list) draft ≡ made rule steps [] before
-        from_here = ap (λ ss. made rule ss (take at list) draft) (sym (drop_more steps at d inside)) ∙ reached
+        from_here : made rule (s ∷ drop (at + 1) steps) list draft ≡ made rule steps [] before
+        from_here = ap (λ ss. made rule ss list draft) (sym (drop_more steps at d inside)) ∙ reached
 
         -- one step more
-        pub reached_more : (draft' : List CoreNode) (r : ℕ) → at < length list → stepped rule s (take at list) draft ≡ record { sheet = draft'; root = r } → Reached (at + 1) (set list at r) draft'
-        reached_more draft' r room e =
-            ap (λ ns. made rule (drop (at + 1) steps) ns draft') (take_more_set list at r room)
-            ∙ sym (ap (λ w. made rule (drop (at + 1) steps) (take at list ++ w.root ∷ []) w.sheet) e)
-            ∙ from_here
+        pub reached_more : (draft' : List CoreNode) (r : ℕ) → stepped rule s list draft ≡ record { sheet = draft'; root = r } → Reached (at + 1) (list ++ r ∷ []) draft'
+        reached_more draft' r e = sym (ap (λ w. made rule (drop (at + 1) steps) (list ++ w.root ∷ []) w.sheet) e) ∙ from_here
 
         -- where a step has no room, neither has the whole
-        pub too_long : (c : Core) → written steps (made rule steps [] before) ≡ write c before → (n : ℕ) → n < length (stepped rule s (take at list) draft).sheet → n < length (write c before).sheet
+        pub too_long : (c : Core) → written steps (made rule steps [] before) ≡ write c before → (n : ℕ) → n < length (stepped rule s list draft).sheet → n < length (write c before).sheet
         too_long c whole n h =
-            let w = stepped rule s (take at list) draft in
-            omega (arith, made_long (drop (at + 1) steps) (take at list ++ w.root ∷ []) w.sheet, ap (λ m. length m.sheet) from_here, ap (λ v. length v.sheet) whole)
+            let w = stepped rule s list draft in
+            omega (arith, made_long (drop (at + 1) steps) (list ++ w.root ∷ []) w.sheet, ap (λ m. length m.sheet) from_here, ap (λ v. length v.sheet) whole)

@@ -16,7 +16,7 @@ form_number TooManyNodes = 7
 
 -- the nodes, which are the sheet
 abbrev pub nodes_of : CoreForm → List CoreNode
-nodes_of f = f.nodes
+nodes_of f = f.nodes.items
 
 -- the sheet and the number that an answer says
 abbrev pub shown : Result CoreForm FormFault → Result Written FormFault

@@ -1,44 +1,44 @@
 // The recipe of each node.
-ghost use Rattle.std.specs.Prelude.{◌≡◌, [], ◌∷◌};
+ghost use Rattle.std.specs.Prelude.{◌≡◌, ◌<◌, [], ◌∷◌, length};
 ghost use Rattle.coreform.specs.Recipes.{pair, fixed, guard, twins, unary_recipe, binary_recipe, recipe_of};
 
-use crate::recipe::{Recipe, Step};
+use crate::recipe::{Recipe, Step, recipe};
 use automata::nodes::CoreNode;
 use rules::node::{BinaryOp, Node, Place, UnaryOp};
 
 // One step alone.
 fn one(step: Step) -> Recipe
-    ensures { result ≡ step ∷ [] }
+    ensures { result.items ≡ step ∷ [] }
 {
-    Recipe::new(&[step])
+    recipe(&[step])
 }
 
 // A node over the rules at two places, each of them or its denial.
 fn pair(node: CoreNode, a: Place, p: bool, b: Place, q: bool) -> Recipe
-    ensures { result ≡ pair node a p b q }
+    ensures { result.items ≡ pair node a p b q }
 {
-    Recipe::new(&[Step::Write(a, p), Step::Write(b, q), Step::Put(node)])
+    recipe(&[Step::Write(a, p), Step::Write(b, q), Step::Put(node)])
 }
 
 // The same with the rules at both places, or the denials of both.
 fn both(node: CoreNode, a: Place, b: Place, p: bool) -> Recipe
-    ensures { result ≡ pair node a p b p }
+    ensures { result.items ≡ pair node a p b p }
 {
     pair(node, a, p, b, p)
 }
 
 // A node over a leaf and the rule at a place.
 fn fixed(leaf: CoreNode, node: CoreNode, a: Place, p: bool) -> Recipe
-    ensures { result ≡ fixed leaf node a p }
+    ensures { result.items ≡ fixed leaf node a p }
 {
-    Recipe::new(&[Step::Put(leaf), Step::Write(a, p), Step::Put(node)])
+    recipe(&[Step::Put(leaf), Step::Write(a, p), Step::Put(node)])
 }
 
 // A node over the rule at b and an inner node, which is over the rules at a and b.
 fn guard(outer: CoreNode, inner: CoreNode, a: Place, b: Place, p: bool) -> Recipe
-    ensures { result ≡ guard outer inner a b p }
+    ensures { result.items ≡ guard outer inner a b p }
 {
-    Recipe::new(&[
+    recipe(&[
         Step::Write(b, p),
         Step::Write(a, p),
         Step::Write(b, p),
@@ -49,9 +49,9 @@ fn guard(outer: CoreNode, inner: CoreNode, a: Place, b: Place, p: bool) -> Recip
 
 // The rules at both places, or the denials of both; with q false, one of them and the denial of the other.
 fn twins(a: Place, b: Place, q: bool) -> Recipe
-    ensures { result ≡ twins a b q }
+    ensures { result.items ≡ twins a b q }
 {
-    Recipe::new(&[
+    recipe(&[
         Step::Write(a, true),
         Step::Write(b, q),
         Step::Put(CoreNode::And(0, 1)),
@@ -64,11 +64,12 @@ fn twins(a: Place, b: Place, q: bool) -> Recipe
 
 // For a node of one operand.
 fn unary_recipe(op: UnaryOp, p: bool, a: Place) -> Recipe
-    ensures { result ≡ unary_recipe op p a }
+    ensures steps { result.items ≡ unary_recipe op p a }
+    ensures some { 0 < length result.items }
 {
     match (op, p) {
         (UnaryOp::Not, _) => one(Step::Write(a, !p)),
-        (UnaryOp::Next, _) => Recipe::new(&[Step::Write(a, p), Step::Put(CoreNode::Next(0))]),
+        (UnaryOp::Next, _) => recipe(&[Step::Write(a, p), Step::Put(CoreNode::Next(0))]),
         (UnaryOp::Eventually, true) | (UnaryOp::Always, false) => fixed(
             CoreNode::True,
             CoreNode::Until(0, 1),
@@ -86,7 +87,8 @@ fn unary_recipe(op: UnaryOp, p: bool, a: Place) -> Recipe
 
 // For a node of two operands.
 fn binary_recipe(op: BinaryOp, p: bool, a: Place, b: Place) -> Recipe
-    ensures { result ≡ binary_recipe op p a b }
+    ensures steps { result.items ≡ binary_recipe op p a b }
+    ensures some { 0 < length result.items }
 {
     match (op, p) {
         (BinaryOp::And, true) | (BinaryOp::Or, false) => both(CoreNode::And(0, 1), a, b, p),
@@ -126,7 +128,8 @@ fn binary_recipe(op: BinaryOp, p: bool, a: Place, b: Place) -> Recipe
 
 // The steps that write the core form of a node (true), or of its denial (false).
 pub(crate) fn recipe_of(node: Node, p: bool) -> Recipe
-    ensures { result ≡ recipe_of node p }
+    ensures steps { result.items ≡ recipe_of node p }
+    ensures some { 0 < length result.items }
 {
     match (node, p) {
         (Node::True, true) | (Node::False, false) => one(Step::Put(CoreNode::True)),

@@ -12,7 +12,7 @@ pub mod forming;
 pub struct CoreForm {
     nodes: Draft,
     root: u8,
-    ghost few: { length nodes ≤ MOST_NODES },
+    ghost few: { length nodes.items ≤ MOST_NODES },
 }
 
 /// Why there is no core form. docs/REFUSALS.md has the numbers.

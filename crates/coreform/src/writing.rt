@@ -7,9 +7,10 @@ ghost use Rattle.coreform.specs.Writing.{Known, Writes};
 ghost use Rattle.semantics.specs.Rules.{rule_at};
 
 use crate::cookbook::recipe_of;
-use crate::draft::Draft;
+use crate::draft::{Draft, put};
 use crate::numbers::Numbers;
 use crate::recipe::{MOST_RECIPE_STEPS, Step};
+use arrayvec::ArrayVec;
 use automata::nodes::CoreNode;
 use rules::book::Book;
 use rules::node::Place;
@@ -36,15 +37,15 @@ pub(crate) struct Writer<'a> {
     pub(crate) draft: Draft,
     numbers: Numbers,
     book: &'a Book,
-    ghost few: { length draft ≤ MOST_NODES },
+    ghost few: { length draft.items ≤ MOST_NODES },
 }
 
 impl<'a> Writer<'a> {
     // Nothing is written.
     pub(crate) fn new(book: &'a Book) -> Writer<'a>
-        ensures draft { result.draft ≡ [] }
+        ensures draft { result.draft.items ≡ [] }
         ensures book { result.book.now ≡ book.now }
-        ensures known { Known book.now result.draft result.numbers }
+        ensures known { Known book.now result.draft.items result.numbers }
     {
         Writer {
             draft: Draft::new(),
@@ -57,25 +58,24 @@ impl<'a> Writer<'a> {
     // number: none where there are over 64 nodes.
     pub(crate) fn write(&mut self, place: Place, polarity: bool) -> Option<u8>
         requires entered { place.index < length self.old.book.now }
-        requires known { Known self.old.book.now self.old.draft self.old.numbers }
-        ensures writes { Writes (core_of (rule_at self.old.book.now place.index) polarity) self.old.draft result self.new.draft }
-        ensures known { IfSome result (λ _. Known self.old.book.now self.new.draft self.new.numbers) }
+        requires known { Known self.old.book.now self.old.draft.items self.old.numbers }
+        ensures writes { Writes (core_of (rule_at self.old.book.now place.index) polarity) self.old.draft.items result self.new.draft.items }
+        ensures known { IfSome result (λ _. Known self.old.book.now self.new.draft.items self.new.numbers) }
         ensures book { self.new.book.now ≡ self.old.book.now }
     {
         if let Some(number) = self.numbers.get(polarity, place) {
             return Some(number);
         }
         let recipe = recipe_of(self.book.nodes()[place.index as usize], polarity);
-        let steps = recipe.steps();
-        // Kept: no heap; a crate for a list in an array is no plainer for this one local.
-        let mut made = [0u8; MOST_RECIPE_STEPS];
-        for (at, step) in steps.iter().enumerate() {
-            made[at] = match *step {
+        let mut made = ArrayVec::<u8, MOST_RECIPE_STEPS>::new();
+        for step in recipe.as_slice() {
+            let number = match *step {
                 Step::Write(a, p) => self.write(a, p)?,
-                Step::Put(node) => self.draft.put(node_over(node, &made[..at]))?,
+                Step::Put(node) => put(&mut self.draft, node_over(node, made.as_slice()))?,
             };
+            made.push(number);
         }
-        let number = made[steps.len() - 1];
+        let number = made[made.len() - 1];
         self.numbers.set(polarity, place, number);
         Some(number)
     }

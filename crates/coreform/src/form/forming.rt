@@ -26,7 +26,7 @@ impl CoreForm {
     pub fn nodes(&self) -> &[CoreNode]
         ensures { result.now ≡ nodes_of self.now }
     {
-        self.nodes.nodes()
+        self.nodes.as_slice()
     }
 
     /// The number of the whole: one of the nodes.
