@@ -19,7 +19,7 @@ pub struct CoreForm {
 #[derive(Clone, Copy, PartialEq, Eq, Debug)]
 pub enum FormFault {
     /// 9: nothing is entered at this place.
-    // Kept: a rule of the project: each crate has its own fault for such a place.
+    // Kept: a public promise: the refusal carries the place.
     NotInBook(Place),
     /// 7: the core form has over 64 nodes.
     TooManyNodes,

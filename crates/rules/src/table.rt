@@ -8,7 +8,7 @@ use crate::node::Node;
 pub const ROOM: usize = 256;
 
 /// The nodes at their places, counted from 0: those below `count` are entered.
-// Kept: fixed memory, and Rattle has no generic struct over an array of its parameter.
+// Kept: a rule of the project: a book stands over an inner table of 256 records.
 #[derive(Drop)]
 pub struct Table {
     pub nodes: [Node; ROOM],
