@@ -78,8 +78,9 @@ impl<'a> Edges<'a> {
     fn word_at(&self, scan: usize) -> u64
         ensures { result ≡ word_at self.now.edges.now scan }
     {
-        let after = self.edges.partition_point(|edge| edge.scan <= scan);
-        self.edges[after - 1].word
+        // the first edge is at scan 0, so that only those after it are searched
+        let later = self.edges[1..].partition_point(|edge| edge.scan <= scan);
+        self.edges[later].word
     }
 }
 
