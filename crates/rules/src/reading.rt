@@ -2,6 +2,7 @@
 ghost use Rattle.std.specs.Prelude.{◌≡◌, ◌≤◌, length, drop, IfErr, Ok, Err, MatchResult};
 ghost use Rattle.rules.specs.declared.reading.ReadFault.TheVariants.{Command as AtCommand};
 ghost use Rattle.rules.specs.Entering.{Enters};
+ghost use Rattle.rules.specs.Tables.{SoundBook};
 ghost use Rattle.rules.specs.Reading.{Reads};
 ghost use Rattle.rules.specs.Refusals.{file_fault, file_number, file_start, read_number, read_start};
 ghost use Rattle.rules.specs.HandedBack.{told, HandsBack};
@@ -111,7 +112,8 @@ fn enter_at<'a>(
     start: usize,
 ) -> Result<(Place, usize), CommandFault<'a>>
     requires { start ≤ length file.now }
-    ensures { MatchResult result (λ p. Enters book.old (drop start file.now) (Ok p) book.new) (λ e. Enters book.old (drop start file.now) (Err e.fault) book.new × (e.start ≡ start) × (e.rest.now ≡ drop start file.now)) }
+    ensures enters { MatchResult result (λ p. Enters book.old (drop start file.now) (Ok p) book.new) (λ e. Enters book.old (drop start file.now) (Err e.fault) book.new × (e.start ≡ start) × (e.rest.now ≡ drop start file.now)) }
+    ensures sound { SoundBook book.new }
 {
     let rest = &file[start..];
     book.enter(rest)
@@ -120,11 +122,15 @@ fn enter_at<'a>(
 
 /// Enters the commands of a rule file in turn, and answers the place of the rule, which is its last
 /// command. Refusal 1 for a file that is empty or over 4,096 bytes, which enters nothing, else 2 to 6
-/// of the first refused command; the commands before it stay entered. docs/RULES.md, docs/REFUSALS.md.
+/// of the first refused command; the commands before it stay entered. Every call leaves the book sound.
+/// docs/RULES.md, docs/REFUSALS.md.
 pub fn read<'a>(book: &mut Book, file: &'a [u8]) -> Result<Place, ReadFault<'a>>
     ensures reads { Reads book.old file.now (told result) book.new }
     ensures rest { IfErr result (λ e. HandsBack file.now e) }
+    ensures sound { SoundBook book.new }
 {
+    // asked, so that the book is known to be sound where the file's size is refused
+    let _entered = book.len();
     if file.is_empty() || file.len() > MOST_BYTES {
         return Err(ReadFault::FileSize(file));
     }

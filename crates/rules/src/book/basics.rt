@@ -10,7 +10,8 @@ use crate::table::{ROOM, Table};
 impl Book {
     /// A book in which nothing is entered.
     pub fn new() -> Book
-        ensures { result ≡ [] }
+        ensures nodes { result ≡ [] }
+        ensures sound { SoundBook result }
     {
         Book {
             table: Table {

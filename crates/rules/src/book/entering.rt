@@ -3,7 +3,7 @@ ghost use Rattle.std.specs.Prelude.{◌≡◌, true, length, if◌then◌else◌
 ghost use Rattle.std.specs.Option.{option_map};
 ghost use Rattle.std.specs.Result.{result_err};
 ghost use Rattle.rules.specs.Entering.{missing, added, Enters};
-ghost use Rattle.rules.specs.Tables.{fits_at};
+ghost use Rattle.rules.specs.Tables.{fits_at, SoundBook};
 ghost use Rattle.rules.specs.declared.fault.EnterFault.TheVariants.{NotEntered};
 
 use crate::book::Book;
@@ -42,6 +42,7 @@ impl Book {
         requires { fits_at node (length self.old) ≡ true }
         ensures answer { result ≡ (added self.old node).0 }
         ensures after { self.new ≡ (added self.old node).1 }
+        ensures sound { SoundBook self.new }
     {
         if let Some(place) = place_in(self.nodes(), node) {
             return Ok(Place {
@@ -62,10 +63,14 @@ impl Book {
     /// Enters the command at the front of the bytes, and answers the place of its node and how many
     /// bytes the command has: 1, 3 or 5. An equal node keeps its place, and a new one stands last.
     /// Refusals 2 to 6, in this order: the command byte, the length, the signal, the operands, the
-    /// room; a refused call leaves the book as it is. docs/RULES.md, docs/REFUSALS.md.
+    /// room; a refused call leaves the book as it is. Every call leaves the book sound. docs/RULES.md,
+    /// docs/REFUSALS.md.
     pub fn enter(&mut self, bytes: &[u8]) -> Result<(Place, usize), EnterFault>
-        ensures { Enters self.old bytes.now result self.new }
+        ensures enters { Enters self.old bytes.now result self.new }
+        ensures sound { SoundBook self.new }
     {
+        // looked at, so that the book is known to be sound where the command is refused
+        let _ = &self.table;
         let (node, length) = decode(bytes)?;
         self.check_operands(node)?;
         let place = self.add(node)?;
