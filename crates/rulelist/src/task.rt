@@ -5,7 +5,7 @@ use lists::LongestLists;
 use rules::reading::MOST_BYTES;
 use std::io;
 use std::io::Read;
-use tableau::translation::Totals;
+use tableau::translation::Finished;
 
 // Reads no more than one byte over what a rule file may have.
 fn read_file(rt: &HostRuntime) -> io::Result<Vec<u8>> {
@@ -16,8 +16,9 @@ fn read_file(rt: &HostRuntime) -> io::Result<Vec<u8>> {
     Ok(bytes)
 }
 
-// Prints a line for each state and each arc.
-fn tell_automaton(rt: &HostRuntime, lists: &LongestLists, totals: Totals) -> io::Result<()> {
+// Prints a line for each state and each arc of a finished translation.
+fn tell_automaton(rt: &HostRuntime, lists: &LongestLists, finished: &Finished) -> io::Result<()> {
+    let totals = finished.totals();
     let states = lists.states.iter().take(totals.states() as usize);
     for (index, &state) in states.enumerate() {
         let number = index + 1;
@@ -35,7 +36,7 @@ pub(crate) fn run(rt: &HostRuntime) -> anyhow::Result<()> {
     let answer = lists.list_rule(file.as_slice());
     println!(rt; "{}", HeadLine::from(&answer))?;
     if let Ok(Listed::Finished(finished)) = &answer {
-        tell_automaton(rt, &lists, finished.totals())?;
+        tell_automaton(rt, &lists, finished)?;
     }
     Ok(())
 }
