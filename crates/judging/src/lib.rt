@@ -1,8 +1,8 @@
 // Judging a rule on a recording.
 #![tactic(auto)]
 
-pub(crate) mod column;
+pub mod column;
 pub mod fault;
 pub mod judge;
 pub mod truths;
-pub(crate) mod turn;
+pub mod turn;

@@ -4,10 +4,10 @@ ghost use Rattle.judging.specs.Turns.{unary_hold, unary_pass, binary_hold, binar
 
 use rules::node::{BinaryOp, Node, UnaryOp};
 
-// What a node says of a scan: it is true there where it holds, or where it passes on and is true at the next
-// scan. The table is in `docs/VERDICTS.md`.
+/// What a node says of a scan: it is true there where it holds, or where it passes on and is true at the next
+/// scan. The table is in `docs/VERDICTS.md`.
 #[derive(Clone, Copy, PartialEq, Eq, Debug)]
-pub(crate) struct Turn {
+pub struct Turn {
     pub hold: bool,
     pub pass: bool,
 }
