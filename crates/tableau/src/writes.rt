@@ -1,20 +1,26 @@
 // Writing what a plan adds.
 ghost use Rattle.std.specs.Prelude.{◌≡◌, ◌+◌, ◌-◌, ◌<◌, ◌≤◌, length, IfSome};
+ghost use Rattle.std.specs.Option.{option_to_list};
 ghost use Rattle.tableau.specs.declared.limits.TheConstants.{MOST_STEPS};
 ghost use Rattle.tableau.specs.Plans.{new_states, new_arcs, new_items, entered_at, states_with, arcs_with, items_with};
 ghost use Rattle.tableau.specs.Rooms.{counts_with};
 
 use crate::plans::Plan;
-use crate::rooms::{Counts, count};
+use crate::rooms::Counts;
 use automata::items::{Arc, Item, State};
 
-// An entry, where there is one, behind the first n.
-fn enter<T: Copy>(list: &mut [T], n: usize, entry: Option<T>)
+// An entry, where there is one, behind the first n, and how many there are then.
+fn enter<T: Copy>(list: &mut [T], n: usize, entry: Option<T>) -> usize
     requires { IfSome entry (λ _. n < length list.old) }
-    ensures { list.new ≡ entered_at entry n list.old }
+    ensures count { result ≡ n + length (option_to_list entry) }
+    ensures list { list.new ≡ entered_at entry n list.old }
 {
-    if let Some(entry) = entry {
-        list[n] = entry;
+    match entry {
+        Some(entry) => {
+            list[n] = entry;
+            n + 1
+        }
+        None => n,
     }
 }
 
@@ -37,16 +43,13 @@ impl Plan {
         ensures arcs { arcs.new ≡ arcs_with self.now counts.arcs arcs.old }
         ensures pending { pending.new ≡ items_with self.now counts.pending pending.old }
     {
-        enter(states, counts.states, self.state());
-        enter(arcs, counts.arcs, self.arc());
         let (here, above) = self.items();
-        enter(pending, counts.pending - 1, here);
-        enter(pending, counts.pending, above);
+        let below = enter(pending, counts.pending - 1, here);
         Counts {
             steps: counts.steps + 1,
-            states: counts.states + count(self.state()),
-            arcs: counts.arcs + count(self.arc()),
-            pending: counts.pending - 1 + self.new_items(),
+            states: enter(states, counts.states, self.state()),
+            arcs: enter(arcs, counts.arcs, self.arc()),
+            pending: enter(pending, below, above),
         }
     }
 }
