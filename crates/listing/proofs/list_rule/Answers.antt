@@ -9,14 +9,14 @@ use Rattle.listing.proofs.list_rule.Goals.{In_ok-place}
 
 -- the file is read into an empty book
 read_empty : (c : In_ok-place) → Reads [] c.args.file.now (rule c.in_ok-place.place) c.read.new.book
-read_empty c = subst (λ b. Reads b c.args.file.now (rule c.in_ok-place.place) c.read.new.book) c.new-book.ensures c.in_ok-place.ensures.reads
+read_empty c = subst (λ b. Reads b c.args.file.now (rule c.in_ok-place.place) c.read.new.book) c.new-book.ensures.nodes c.in_ok-place.ensures.reads
 
 pub returns-in_err-place : goal.returns-in_err-place
 returns-in_err-place c =
     let p = err_from_is_err_and c.from_residual.result c.from_residual.ensures.1 in
     let h = c.in_err-place.ensures in
     unread_as c.args.file.now (lists c.args.sheet.now c.args.states.now c.args.arcs.now c.args.pending.now)
-    c.in_err-place.field-0.0 c.new-book.result c.read.new.book c.new-book.ensures h.reads h.rest
+    c.in_err-place.field-0.0 c.new-book.result c.read.new.book c.new-book.ensures.nodes h.reads h.rest
     c.from_residual.result (p.1 ∙ ap Err p.2)
 
 pub returns-in_err-running : goal.returns-in_err-running
