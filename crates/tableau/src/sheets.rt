@@ -1,6 +1,6 @@
 // Reading a sheet of at most 64 core nodes.
 ghost use Rattle.std.specs.Prelude.{◌≡◌, ◌≤◌, true, length};
-ghost use Rattle.automata.specs.Steps.{node_on, both_below, sound_on};
+ghost use Rattle.automata.specs.Steps.{checked, node_on, both_below, sound_on};
 ghost use Rattle.tableau.specs.declared.limits.TheConstants.{MOST_CORES};
 
 use automata::nodes::CoreNode;
@@ -32,7 +32,7 @@ fn is_sound(n: usize, node: CoreNode) -> bool
 {
     match node {
         CoreNode::True | CoreNode::False => true,
-        // two arms: one for both is compiled to more than twice the work
+        // Two arms: one for both costs a scan of Old up to half as much again.
         CoreNode::On(s) => s < 64,
         CoreNode::Off(s) => s < 64,
         CoreNode::Next(a) => (a as usize) < n,
@@ -43,14 +43,28 @@ fn is_sound(n: usize, node: CoreNode) -> bool
     }
 }
 
+// The node, or false if it names what is not there.
+fn check(n: usize, node: CoreNode) -> Checked
+    requires { n ≤ MOST_CORES }
+    ensures { result.node ≡ checked n node }
+{
+    if is_sound(n, node) {
+        Checked { node }
+    } else {
+        Checked {
+            node: CoreNode::False,
+        }
+    }
+}
+
 impl Sheet<'_> {
     // The node of a number: false if it is not on the sheet, or names what is not there.
     pub(crate) fn node_at(&self, k: u8) -> Checked
         ensures { result.node ≡ node_on self.now.nodes.now k }
     {
         match self.nodes.get(k as usize) {
-            Some(node) if is_sound(self.nodes.len(), *node) => Checked { node: *node },
-            _ => Checked {
+            Some(node) => check(self.nodes.len(), *node),
+            None => Checked {
                 node: CoreNode::False,
             },
         }
