@@ -1,7 +1,4 @@
 // How the core form of a node is written, from the numbers of its operands.
-ghost use Rattle.std.specs.Prelude.{◌≡◌, ◌≤◌, length};
-ghost use Rattle.coreform.specs.declared.recipe.TheConstants.{MOST_RECIPE_STEPS};
-
 use arrayvec::ArrayVec;
 use automata::nodes::CoreNode;
 use rules::node::Place;
@@ -23,18 +20,9 @@ pub(crate) const MOST_RECIPE_STEPS: usize = 7;
 // The steps for one node: the last one answers its number.
 pub(crate) type Recipe = ArrayVec<Step, MOST_RECIPE_STEPS>;
 
+// It fills the places of a recipe that are not in use, and is the step of zeros: that fills fastest.
 impl Default for Step {
     fn default() -> Step {
-        Step::Put(CoreNode::False)
+        Step::Write(Place { index: 0 }, false)
     }
-}
-
-// A recipe of these steps, which fit.
-pub(crate) fn recipe(given: &[Step]) -> Recipe
-    requires { length given.now ≤ MOST_RECIPE_STEPS }
-    ensures { result.items ≡ given.now }
-{
-    let mut steps = Recipe::new();
-    let _ = steps.try_extend_from_slice(given);
-    steps
 }

@@ -9,7 +9,7 @@ ghost use Rattle.semantics.specs.Rules.{rule_at};
 use crate::cookbook::recipe_of;
 use crate::draft::{Draft, put};
 use crate::numbers::Numbers;
-use crate::recipe::{MOST_RECIPE_STEPS, Step};
+use crate::recipe::{MOST_RECIPE_STEPS, Recipe, Step};
 use arrayvec::ArrayVec;
 use automata::nodes::CoreNode;
 use rules::book::Book;
@@ -66,7 +66,12 @@ impl<'a> Writer<'a> {
         if let Some(number) = self.numbers.get(polarity, place) {
             return Some(number);
         }
-        let recipe = recipe_of(self.book.nodes()[place.index as usize], polarity);
+        let mut recipe = Recipe::new();
+        recipe_of(
+            &mut recipe,
+            self.book.nodes()[place.index as usize],
+            polarity,
+        );
         let mut made = ArrayVec::<u8, MOST_RECIPE_STEPS>::new();
         for step in recipe.as_slice() {
             let number = match *step {

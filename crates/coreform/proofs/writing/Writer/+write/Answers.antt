@@ -23,7 +23,7 @@ write-requires t c =
     let sound = c.nodes.ensures.sound in
     let inv = c.loop-step.invariant in
     let here = c.requires.entered in
-    let lower = recipe_lower _ _ sound.ordered c.nodes.ensures.nodes c.args.place.index here c.args.polarity _ (c.as_slice-step-items.ensures.value ∙ c.recipe_of-recipe.ensures.steps) c.loop-step.step-index no_step c.in-Write.a c.in-Write.p c.loop-step-test.true c.in-Write.is in
+    let lower = recipe_lower _ _ sound.ordered c.nodes.ensures.nodes c.args.place.index here c.args.polarity _ (c.as_slice-step-items.ensures.value ∙ c.recipe_of.ensures.steps) c.loop-step.step-index no_step c.in-Write.a c.in-Write.p c.loop-step-test.true c.in-Write.is in
     let measured = c.decreases in
     (omega arith, rw inv.book (omega arith, inv.known))
 
@@ -31,7 +31,7 @@ pub returns-in_err-number-in-Write-clause-writes : goal.returns-in_err-number-in
 returns-in_err-number-in-Write-clause-writes t c =
     let book = c.args.self.now.book.now in
     let inv = c.loop-step.invariant in
-    let whole = recipe_writes book _ c.nodes.ensures.sound.ordered c.nodes.ensures.nodes c.args.place.index c.requires.entered c.args.polarity _ (c.as_slice-step-items.ensures.value ∙ c.recipe_of-recipe.ensures.steps) c.args.self.now.draft.items in
+    let whole = recipe_writes book _ c.nodes.ensures.sound.ordered c.nodes.ensures.nodes c.args.place.index c.requires.entered c.args.polarity _ (c.as_slice-step-items.ensures.value ∙ c.recipe_of.ensures.steps) c.args.self.now.draft.items in
     let lost : 64 < length (stepped (rule_at book) (get_or c.as_slice-step-items.result.now c.loop-step.step-index no_step) c.loop-step.made.items c.loop-step.self.draft.items).sheet = rw (c.in-Write.is, ← inv.book) c.in_err-number-in-Write.ensures.writes in
     rw c.from_residual.ensures (too_long (rule_at book) _ _ c.loop-step.step-index c.loop-step.made.items c.loop-step.self.draft.items inv.reached no_step c.loop-step-test.true _ whole 64 lost)
 
@@ -39,7 +39,7 @@ pub returns-in_err-number-in-Put-clause-writes : goal.returns-in_err-number-in-P
 returns-in_err-number-in-Put-clause-writes t c =
     let book = c.args.self.now.book.now in
     let inv = c.loop-step.invariant in
-    let whole = recipe_writes book _ c.nodes.ensures.sound.ordered c.nodes.ensures.nodes c.args.place.index c.requires.entered c.args.polarity _ (c.as_slice-step-items.ensures.value ∙ c.recipe_of-recipe.ensures.steps) c.args.self.now.draft.items in
+    let whole = recipe_writes book _ c.nodes.ensures.sound.ordered c.nodes.ensures.nodes c.args.place.index c.requires.entered c.args.polarity _ (c.as_slice-step-items.ensures.value ∙ c.recipe_of.ensures.steps) c.args.self.now.draft.items in
     let over : c.node_over.result ≡ node_over c.in-Put.node c.loop-step.made.items = c.node_over.ensures ∙ ap (node_over c.in-Put.node) c.as_slice.ensures.value in
     let lost : 64 < length (stepped (rule_at book) (get_or c.as_slice-step-items.result.now c.loop-step.step-index no_step) c.loop-step.made.items c.loop-step.self.draft.items).sheet = rw (c.in-Put.is, ← over) c.in_err-number-in-Put.ensures.drafted in
     rw c.from_residual-in_err-number-in-Put.ensures (too_long (rule_at book) _ _ c.loop-step.step-index c.loop-step.made.items c.loop-step.self.draft.items inv.reached no_step c.loop-step-test.true _ whole 64 lost)
@@ -79,7 +79,7 @@ returns t c =
     let inv = c.loop-step.invariant in
     let end = c.loop-step-test.false in
     let here = c.loop-step.auto.step-index-end in
-    let whole = recipe_writes book _ c.nodes.ensures.sound.ordered c.nodes.ensures.nodes c.args.place.index c.requires.entered c.args.polarity _ (c.as_slice-step-items.ensures.value ∙ c.recipe_of-recipe.ensures.steps) c.args.self.now.draft.items in
+    let whole = recipe_writes book _ c.nodes.ensures.sound.ordered c.nodes.ensures.nodes c.args.place.index c.requires.entered c.args.polarity _ (c.as_slice-step-items.ensures.value ∙ c.recipe_of.ensures.steps) c.args.self.now.draft.items in
     let wrote = sym whole ∙ reached_end (rule_at book) _ _ c.loop-step.step-index c.loop-step.made.items draft inv.reached end (omega (arith, inv.long)) in
     let number : get_or c.loop-step.made.items (length c.loop-step.made.items - 1) 0 ≡ get_or c.deref.result.now (c.len.result - 1) 0 = ap (λ xs. get_or xs (length c.loop-step.made.items - 1) 0) (sym c.deref.ensures.0) ∙ ap (λ n. get_or c.deref.result.now (n - 1) 0) (sym c.len.ensures.value) in
     let root = wrote ∙ ap (λ k. record { sheet = draft; root = k }) number in
