@@ -13,9 +13,9 @@ pub(crate) struct Pair {
     pub denied: Option<u8>,
 }
 
-// For each place its numbers.
+/// For each place of a book, 0 to 255, the numbers that its core form and its denial's have on a draft.
 #[derive(Drop)]
-pub(crate) struct Numbers {
+pub struct Numbers {
     pairs: [Pair; ROOM],
 }
 

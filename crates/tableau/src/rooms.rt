@@ -72,8 +72,11 @@ impl Plan {
         ensures count { result ≡ length (new_items self.now) }
         ensures few { result ≤ 2 }
     {
-        let (here, above) = self.items();
-        count(here) + count(above)
+        match self {
+            Plan::One(_) | Plan::Make(_, _, _) => 1,
+            Plan::Two(_, _) => 2,
+            _ => 0,
+        }
     }
 }
 
