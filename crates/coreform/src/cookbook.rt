@@ -1,5 +1,5 @@
 // The recipe of each node. Its steps are pushed to an empty recipe in place, so that none is copied.
-ghost use Rattle.std.specs.Prelude.{◌≡◌, ◌<◌, [], ◌∷◌, length};
+ghost use Rattle.std.specs.Prelude.{◌≡◌, ◌<◌, [], ◌∷◌, take};
 ghost use Rattle.coreform.specs.Recipes.{pair, fixed, guard, twins, unary_recipe, binary_recipe, recipe_of};
 
 use crate::recipe::{Recipe, Step};
@@ -8,8 +8,8 @@ use rules::node::{BinaryOp, Node, Place, UnaryOp};
 
 // A node over the rules at two places, each of them or its denial.
 fn pair(recipe: &mut Recipe, node: CoreNode, a: Place, p: bool, b: Place, q: bool)
-    requires { recipe.old.items ≡ [] }
-    ensures { recipe.new.items ≡ pair node a p b q }
+    requires { recipe.old.count ≡ 0 }
+    ensures { take recipe.new.count recipe.new.steps ≡ pair node a p b q }
 {
     recipe.push(Step::Write(a, p));
     recipe.push(Step::Write(b, q));
@@ -18,16 +18,16 @@ fn pair(recipe: &mut Recipe, node: CoreNode, a: Place, p: bool, b: Place, q: boo
 
 // The same with the rules at both places, or the denials of both.
 fn both(recipe: &mut Recipe, node: CoreNode, a: Place, b: Place, p: bool)
-    requires { recipe.old.items ≡ [] }
-    ensures { recipe.new.items ≡ pair node a p b p }
+    requires { recipe.old.count ≡ 0 }
+    ensures { take recipe.new.count recipe.new.steps ≡ pair node a p b p }
 {
     pair(recipe, node, a, p, b, p);
 }
 
 // A node over a leaf and the rule at a place.
 fn fixed(recipe: &mut Recipe, leaf: CoreNode, node: CoreNode, a: Place, p: bool)
-    requires { recipe.old.items ≡ [] }
-    ensures { recipe.new.items ≡ fixed leaf node a p }
+    requires { recipe.old.count ≡ 0 }
+    ensures { take recipe.new.count recipe.new.steps ≡ fixed leaf node a p }
 {
     recipe.push(Step::Put(leaf));
     recipe.push(Step::Write(a, p));
@@ -36,8 +36,8 @@ fn fixed(recipe: &mut Recipe, leaf: CoreNode, node: CoreNode, a: Place, p: bool)
 
 // A node over the rule at b and an inner node, which is over the rules at a and b.
 fn guard(recipe: &mut Recipe, outer: CoreNode, inner: CoreNode, a: Place, b: Place, p: bool)
-    requires { recipe.old.items ≡ [] }
-    ensures { recipe.new.items ≡ guard outer inner a b p }
+    requires { recipe.old.count ≡ 0 }
+    ensures { take recipe.new.count recipe.new.steps ≡ guard outer inner a b p }
 {
     recipe.push(Step::Write(b, p));
     recipe.push(Step::Write(a, p));
@@ -48,8 +48,8 @@ fn guard(recipe: &mut Recipe, outer: CoreNode, inner: CoreNode, a: Place, b: Pla
 
 // The rules at both places, or the denials of both; with q false, one of them and the denial of the other.
 fn twins(recipe: &mut Recipe, a: Place, b: Place, q: bool)
-    requires { recipe.old.items ≡ [] }
-    ensures { recipe.new.items ≡ twins a b q }
+    requires { recipe.old.count ≡ 0 }
+    ensures { take recipe.new.count recipe.new.steps ≡ twins a b q }
 {
     recipe.push(Step::Write(a, true));
     recipe.push(Step::Write(b, q));
@@ -62,9 +62,9 @@ fn twins(recipe: &mut Recipe, a: Place, b: Place, q: bool)
 
 // For a node of one operand.
 fn unary_recipe(recipe: &mut Recipe, op: UnaryOp, p: bool, a: Place)
-    requires { recipe.old.items ≡ [] }
-    ensures steps { recipe.new.items ≡ unary_recipe op p a }
-    ensures some { 0 < length recipe.new.items }
+    requires { recipe.old.count ≡ 0 }
+    ensures steps { take recipe.new.count recipe.new.steps ≡ unary_recipe op p a }
+    ensures some { 0 < recipe.new.count }
 {
     match (op, p) {
         (UnaryOp::Not, _) => recipe.push(Step::Write(a, !p)),
@@ -91,9 +91,9 @@ fn unary_recipe(recipe: &mut Recipe, op: UnaryOp, p: bool, a: Place)
 
 // For a node of two operands.
 fn binary_recipe(recipe: &mut Recipe, op: BinaryOp, p: bool, a: Place, b: Place)
-    requires { recipe.old.items ≡ [] }
-    ensures steps { recipe.new.items ≡ binary_recipe op p a b }
-    ensures some { 0 < length recipe.new.items }
+    requires { recipe.old.count ≡ 0 }
+    ensures steps { take recipe.new.count recipe.new.steps ≡ binary_recipe op p a b }
+    ensures some { 0 < recipe.new.count }
 {
     match (op, p) {
         (BinaryOp::And, true) | (BinaryOp::Or, false) => both(recipe, CoreNode::And(0, 1), a, b, p),
@@ -137,9 +137,9 @@ fn binary_recipe(recipe: &mut Recipe, op: BinaryOp, p: bool, a: Place, b: Place)
 
 // The steps that write the core form of a node (true), or of its denial (false).
 pub(crate) fn recipe_of(recipe: &mut Recipe, node: Node, p: bool)
-    requires { recipe.old.items ≡ [] }
-    ensures steps { recipe.new.items ≡ recipe_of node p }
-    ensures some { 0 < length recipe.new.items }
+    requires { recipe.old.count ≡ 0 }
+    ensures steps { take recipe.new.count recipe.new.steps ≡ recipe_of node p }
+    ensures some { 0 < recipe.new.count }
 {
     match (node, p) {
         (Node::True, true) | (Node::False, false) => recipe.push(Step::Put(CoreNode::True)),
